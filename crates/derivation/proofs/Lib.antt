@@ -1,0 +1,13 @@
+pub mod GrowthLaws
+pub mod FaultLaws
+pub mod SetLaws
+pub mod WeightLaws
+pub mod PlaceLaws
+pub mod TypeChecks
+pub mod RowChecks
+pub mod FormatCut
+pub mod FormatRecords
+pub mod FormatLaws
+pub mod TreeLaws
+pub mod RowLaws
+pub mod AcceptedLaws

@@ -1,0 +1,12 @@
+pub mod Sets
+pub mod Growth
+pub mod Faults
+pub mod Refusals
+pub mod Gates
+pub mod Trees
+pub mod Rows
+pub mod Weights
+pub mod Judgements
+pub mod Places
+pub mod Accepted
+pub mod Format
