@@ -249,3 +249,12 @@ unfolding derivationOf
 read-complete es rows v =
     let a = valid-parts es rows v in
     rw (parse-from-pieces (encode es rows) _ (encode-pieces es rows (a .0) (a .1) (a .2)), a .3, rows-again rows) refl
+
+-- what was read has few types and rows, and some row
+pub parse-counts : (bytes : List ℕ) (p : Parsed) → parse bytes ≡ Ok p → (length (p .types) ≤ 64) × (0 < length (p .records)) × (length (p .records) ≤ 128)
+parse-counts bytes p e =
+    let x = pieces-from-parse bytes p e in
+    let t = cut-length typeLength frontType (length bytes) _ _ _ (x .types-cut) in
+    let r = cut-length rowLength frontRow (length bytes) _ _ _ (x .rows-cut) in
+    let h = x .header in
+    (omega arith, omega arith, omega arith)

@@ -11,3 +11,10 @@ pub mod FormatLaws
 pub mod TreeLaws
 pub mod RowLaws
 pub mod AcceptedLaws
+pub mod WriterLaws
+pub mod HolderLaws
+pub mod ReadLaws
+pub mod Worked
+pub mod CountLaws
+pub mod EnvLaws
+pub mod HeldLaws

@@ -10,13 +10,15 @@ use Rattle.std.specs.Options.{isSome}
 use Rattle.std.specs.declared.option.Option.{Option}
 use Rattle.std.specs.declared.option.Option.the-variants.{Some, None}
 use Rattle.derivation.specs.declared.types.TypeEntry.{TypeEntry}
+use Rattle.derivation.specs.declared.types.Size.{Size}
 use Rattle.derivation.specs.declared.rows.Row.{Row}
 use Rattle.derivation.specs.declared.rows.Record.{Record}
 use Rattle.derivation.specs.declared.refusal.Refusal.{Refusal}
 use Rattle.derivation.specs.declared.refusal.Refusal.the-variants.{TooManyWires}
 use Rattle.derivation.specs.Faults.{orElse, firstFault}
-use Rattle.derivation.specs.Trees.{Tree, atoms, tree, typesFault}
-use Rattle.derivation.specs.Rows.{premises, typeAt, rowFault, rowOf, recordOf, unusedFault}
+use Rattle.derivation.specs.Trees.{atoms, tree, trees, typesFault}
+use Rattle.derivation.specs.Rows.{premises, typeAt, rowFault, rowOf, recordOf, unusedFault, environments, taken}
+use Rattle.derivation.specs.Weights.{sizeOf}
 use Rattle.derivation.specs.Judgements.{ruleAt, Follows}
 use Rattle.derivation.specs.Places.{wires}
 
@@ -32,9 +34,13 @@ rowsFault es records = firstFault (rowFault es) rowOf [] records
 abbrev pub wiresFault : List TypeEntry → List Row → Option Refusal
 wiresFault es rows = cond (ltb 32 (wires es rows)) (Some (TooManyWires (record { 0 = length rows - 1 }))) None
 
+-- what is wrong with all rows together
+abbrev pub wholeFault : List TypeEntry → List Row → Option Refusal
+wholeFault es rows = orElse (unusedFault rows) (wiresFault es rows)
+
 -- the first fault of types and rows: all types, then each row, then what is said of all rows
 abbrev pub fault : List TypeEntry → List Record → Option Refusal
-fault es records = orElse (typesFault es) (orElse (rowsFault es records) (orElse (unusedFault (map rowOf records)) (wiresFault es (map rowOf records))))
+fault es records = orElse (typesFault es) (orElse (rowsFault es records) (wholeFault es (map rowOf records)))
 
 -- the checks pass, and there are not too many types or rows
 unfoldable pub valid : List TypeEntry → List Row → Bool
@@ -67,3 +73,14 @@ pub record Accepted (es : List TypeEntry) (rows : List Row) : Type 0 where
   pub follows : (r : ℕ) → r < length rows → Follows es rows r
   pub once : (q : ℕ) → suc q < length rows → uses rows q ≡ 1
   pub wired : wires es rows ≤ 32
+
+-- what reading knows of a derivation once its types and each of its rows have passed
+pub record Sound (es : List TypeEntry) (sizes : List Size) (rows : List Row) (envs : List ℕ) (premised : ℕ) : Type 0 where
+  pub few-types : length es ≤ 64
+  pub some-rows : 0 < length rows
+  pub few-rows : length rows ≤ 128
+  pub types-pass : typesFault es ≡ None
+  pub rows-pass : rowsFault es (map recordOf rows) ≡ None
+  pub sized : sizes ≡ map sizeOf (trees es)
+  pub surrounded : envs ≡ environments rows
+  pub used : premised ≡ taken rows

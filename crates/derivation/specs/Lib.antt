@@ -10,3 +10,6 @@ pub mod Judgements
 pub mod Places
 pub mod Accepted
 pub mod Format
+pub mod Written
+pub mod Held
+pub mod Reading

@@ -111,6 +111,10 @@ bindsFree envs rule = allIn (gathered 0 envs (premises rule)) (binders rule)
 abbrev pub noRow : Row
 noRow = record { ty = record { 0 = 0 }; rule = Variable }
 
+-- a qubit in state zero
+abbrev pub zeroRow : Row
+zeroRow = record { ty = record { 0 = 0 }; rule = Zero }
+
 -- the type number of row r
 abbrev pub typeAt : List Row → ℕ → ℕ
 typeAt rows r = getD rows r noRow .ty .0
