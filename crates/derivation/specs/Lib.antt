@@ -10,6 +10,8 @@ pub mod Judgements
 pub mod Places
 pub mod Accepted
 pub mod Format
+pub mod Reads
 pub mod Written
 pub mod Held
 pub mod Reading
+pub mod Booking

@@ -11,6 +11,14 @@ pub struct RowId(pub u8);
 #[derive(Clone, Copy)]
 pub struct Wire(pub u8);
 
+// How a wire's token starts: at a negative place of the last row, or at a zero or one row.
+#[derive(Clone, Copy)]
+pub enum Start {
+    Given,
+    Zero,
+    One,
+}
+
 // The number of an end: a positive place of the last row, where a token comes to rest.
 #[derive(Clone, Copy)]
 pub struct EndId(pub u8);
