@@ -185,15 +185,15 @@ module _ (es : List TypeEntry) (rows : List Row) where
   typed-to table k h known (Gate g) p b t =
       let n = parts es table Arrow (typeAt rows k) (power (arity g)) (power (arity g)) h t in
       and-from _ _
-        (node-tree es table Arrow _ _ _ h (n .left-known) (n .left-known) (t ∙ ap (λ a. arrow a a) (sym (n .left-tree))))
-        (power-tree es table (arity g) _ (gate-some g) (n .left-known) (n .left-tree))
+      (node-tree es table Arrow _ _ _ h (n .left-known) (n .left-known) (t ∙ ap (λ a. arrow a a) (sym (n .left-tree))))
+      (power-tree es table (arity g) _ (gate-some g) (n .left-known) (n .left-tree))
   typed-to table k h known (Lambda q x) p b t =
       node-tree es table Arrow _ _ _ h (known (x .0) (b 0 (omega arith))) (known (q .0) (p 0 (omega arith))) t
   typed-to table k h known (PairLambda q x y) p b t =
       let n = parts es table Arrow (typeAt rows k) _ _ h t in
       and-from _ _
-        (node-tree es table Arrow _ _ _ h (n .left-known) (known (q .0) (p 0 (omega arith))) (t ∙ ap (λ a. arrow a (treeAt es rows (q .0))) (sym (n .left-tree))))
-        (node-tree es table PairKind _ _ _ (n .left-known) (known (x .0) (b 0 (omega arith))) (known (y .0) (b 1 (omega arith))) (n .left-tree))
+      (node-tree es table Arrow _ _ _ h (n .left-known) (known (q .0) (p 0 (omega arith))) (t ∙ ap (λ a. arrow a (treeAt es rows (q .0))) (sym (n .left-tree))))
+      (node-tree es table PairKind _ _ _ (n .left-known) (known (x .0) (b 0 (omega arith))) (known (y .0) (b 1 (omega arith))) (n .left-tree))
   typed-to table k h known (Apply f a) p b t =
       node-tree es table Arrow _ _ _ (known (f .0) (p 0 (omega arith))) (known (a .0) (p 1 (omega arith))) h t
   typed-to table k h known (Pair l r) p b t =
@@ -226,7 +226,7 @@ module _ (es : List TypeEntry) (rows : List Row) where
         lower = subst (λ m. Below m (premisesAt rows k)) n (below-from _ _ (not-false _ lower));
         new = not-false _ new;
         bound = not-false _ bound;
-        typed = not-false _ (cond-none _ _ _ e4 .0)
+        typed = not-false _ (cond-none _ _ _ e4 .0);
       }
 
   sound-to : (k : ℕ) → k < length rows → Sound es rows k → rowFault es (take k rows) (recordOf (getD rows k noRow)) ≡ None
@@ -253,7 +253,7 @@ module _ (es : List TypeEntry) (rows : List Row) where
   sounds-to : ((k : ℕ) → k < length rows → Sound es rows k) → rowsFault es (map recordOf rows) ≡ None
   sounds-to s =
       none-to (rowFault es) rowOf [] (map recordOf rows) (recordOf noRow)
-        (λ k h. let l = subst (λ n. k < n) (length-map rows recordOf) h in fault-at k l ∙ sound-to k l (s k l))
+      (λ k h. let l = subst (λ n. k < n) (length-map rows recordOf) h in fault-at k l ∙ sound-to k l (s k l))
 
   -- a row binds the same in the front as in all rows
   bound-take : (k : ℕ) (rule : Rule) → k ≤ length rows → Below k (premises rule) → bindsFree (environments (take k rows)) rule ≡ bindsFree (environments rows) rule
@@ -265,11 +265,11 @@ module _ (es : List TypeEntry) (rows : List Row) where
       let low : Low rows = λ k l. s k l .lower in
       let free = sym (bound-take r (ruleAt rows r) (omega arith) (low r h)) ∙ s r h .bound in
       inferred (treeAt es rows) (environments rows) r (ruleAt rows r)
-        (env-row rows r h (low r h))
-        (binding-from (treeAt es rows) (environments rows) (ruleAt rows r) free)
-        (λ p q. apart-premises rows low (λ k l. s k l .new) r p q h)
-        (typed-from es rows parts-low r (ruleAt rows r)
-          (sym (fits-take es rows r (typeAt rows r) (ruleAt rows r) (low r h) (binders-low rows low r (binders (ruleAt rows r)) h free)) ∙ s r h .typed))
+      (env-row rows r h (low r h))
+      (binding-from (treeAt es rows) (environments rows) (ruleAt rows r) free)
+      (λ p q. apart-premises rows low (λ k l. s k l .new) r p q h)
+      (typed-from es rows parts-low r (ruleAt rows r)
+      (sym (fits-take es rows r (typeAt rows r) (ruleAt rows r) (low r h) (binders-low rows low r (binders (ruleAt rows r)) h free)) ∙ s r h .typed))
 
   -- the rows of an accepted derivation are sound
   sounds-since : Accepted es rows → (k : ℕ) → k < length rows → Sound es rows k
@@ -283,8 +283,8 @@ module _ (es : List TypeEntry) (rows : List Row) where
         new = once-free rows (a .lower) (a .once) k h;
         bound = bound-take k (ruleAt rows k) (omega arith) (a .lower k h) ∙ free;
         typed =
-          fits-take es rows k (typeAt rows k) (ruleAt rows k) (a .lower k h) bound
-          ∙ typed-to es rows (a .table) k (a .known k h) (λ r l. a .known r (omega arith)) (ruleAt rows k) (a .lower k h) bound t
+            fits-take es rows k (typeAt rows k) (ruleAt rows k) (a .lower k h) bound
+            ∙ typed-to es rows (a .table) k (a .known k h) (λ r l. a .known r (omega arith)) (ruleAt rows k) (a .lower k h) bound t;
       }
 
 -- no fault is found exactly if there is none
@@ -315,7 +315,7 @@ accepted-from-valid es rows v =
       lower = λ r h. s r h .lower;
       follows = follows-from es rows (table .lower) s;
       once = once-from rows (λ k h. s k h .new) (ap unusedFault (sym (read-back rows)) ∙ unused);
-      wired = subst (λ l. wires es l ≤ 32) (read-back rows) (ltb-false _ _ (cond-none _ _ _ wide .0))
+      wired = subst (λ l. wires es l ≤ 32) (read-back rows) (ltb-false _ _ (cond-none _ _ _ wide .0));
     }
 
 -- the checks pass if the derivation keeps the typing rules
@@ -326,7 +326,7 @@ valid-from-accepted es rows a =
     (and-from _ _ (lt-ltb _ _ (a .some))
     (and-from _ _ (le-leb _ _ (a .few))
     (fault-none _
-      (or-else-none _ _ (table-to es (a .table))
-      ∙ or-else-none _ _ (sounds-to es rows (sounds-since es rows a))
-      ∙ or-else-none _ _ (ap unusedFault (read-back rows) ∙ unused-none rows (a .once))
-      ∙ cond-false _ _ _ (le-ltb _ _ (subst (λ l. wires es l ≤ 32) (sym (read-back rows)) (a .wired)))))))
+    (or-else-none _ _ (table-to es (a .table))
+    ∙ or-else-none _ _ (sounds-to es rows (sounds-since es rows a))
+    ∙ or-else-none _ _ (ap unusedFault (read-back rows) ∙ unused-none rows (a .once))
+    ∙ cond-false _ _ _ (le-ltb _ _ (subst (λ l. wires es l ≤ 32) (sym (read-back rows)) (a .wired)))))))

@@ -43,7 +43,7 @@ and-then-ok (Err d) f y e = let z : _≡_ {A = ℕ} 0 1 = cc in absurd (omega ar
 
 -- an item in front of a reading that came to a result: the rest did
 pub prepend-ok : {A : Type 0} (x : A) (r : Result (Cut A) Refusal) (c : Cut A) → prepend x r ≡ Ok c →
-  (d : Cut A) × (r ≡ Ok d) × (c .items ≡ x ∷ d .items) × (c .rest ≡ d .rest)
+    (d : Cut A) × (r ≡ Ok d) × (c .items ≡ x ∷ d .items) × (c .rest ≡ d .rest)
 prepend-ok x (Ok d) c e = let same = ok-same e in (d, refl, sym (ap (λ z. z .items) same), sym (ap (λ z. z .rest) same))
 prepend-ok x (Err d) c e = let z : _≡_ {A = ℕ} 0 1 = cc in absurd (omega arith)
 
@@ -82,7 +82,7 @@ none-from-framed lengthOf total left f =
     let n = getD left 0 0 in
     let m = lengthOf (getD left 1 0) in
     cond-false (eqb n 0 || ltb (length left) (1 + n)) _ _
-      (or-from _ _ (ne-eqb n 0 (λ e. omega arith)) (le-ltb (length left) (1 + n) (omega arith)))
+    (or-from _ _ (ne-eqb n 0 (λ e. omega arith)) (le-ltb (length left) (1 + n) (omega arith)))
     ∙ cond-false (eqb m 0) _ _ (ne-eqb m 0 (λ e. omega arith))
     ∙ cond-true (eqb m n) _ _ (eq-eqb m n (f .fitting))
 
@@ -94,22 +94,23 @@ pub record Written {A : Type 0} (lengthOf : ℕ → ℕ) (front : List ℕ → A
 
 -- a record of a length byte, a kind and more, as its kind wants it
 pub written-from : {A : Type 0} (lengthOf : ℕ → ℕ) (front : List ℕ → A) (n kind : ℕ) (more rest : List ℕ) (y : A) →
-  suc (length more) ≡ n → lengthOf kind ≡ n → front (n ∷ kind ∷ (more ++ rest)) ≡ y → Written lengthOf front (n ∷ kind ∷ more) rest y
+    suc (length more) ≡ n → lengthOf kind ≡ n → front (n ∷ kind ∷ (more ++ rest)) ≡ y → Written lengthOf front (n ∷ kind ∷ more) rest y
 written-from lengthOf front n kind more rest y l f e = record {
-    framed = record { some = omega arith; within = simp length-append (omega arith); fitting = f };
-    again = e;
-    behind = drop-at (n ∷ kind ∷ more) rest (1 + n) (omega arith) }
+  framed = record { some = omega arith; within = simp length-append (omega arith); fitting = f };
+  again = e;
+  behind = drop-at (n ∷ kind ∷ more) rest (1 + n) (omega arith);
+}
 
 -- Records of some kind, written from X and read as A, which stand for one another by to and from:
 -- what was written is read, and what is read, and has something in X that it stands for, was written.
 pub record Exact {X A : Type 0} (to : X → A) (from : A → X) (lengthOf : ℕ → ℕ) (front : List ℕ → A) (write : X → List ℕ) : Type 0 where
   pub written : (x : X) (rest : List ℕ) → Written lengthOf front (write x) rest (to x)
   pub found : (left : List ℕ) → Framed lengthOf left → to (from (front left)) ≡ front left →
-    take (suc (getD left 0 0)) left ≡ write (from (front left))
+      take (suc (getD left 0 0)) left ≡ write (from (front left))
 
 -- as many items are cut off as were asked for
 pub cut-length : {A : Type 0} (lengthOf : ℕ → ℕ) (front : List ℕ → A) (total n : ℕ) (left : List ℕ) (c : Cut A) →
-  cut lengthOf front total n left ≡ Ok c → length (c .items) ≡ n
+    cut lengthOf front total n left ≡ Ok c → length (c .items) ≡ n
 unfolding cut
 cut-length lengthOf front total zero left c e = sym (ap (λ z. length (z .items)) (ok-same e))
 cut-length lengthOf front total (suc n) left c e =
@@ -118,10 +119,10 @@ cut-length lengthOf front total (suc n) left c e =
     ap length (q .2) ∙ ap suc (cut-length lengthOf front total n _ (q .0) (q .1))
 
 module _ {X A : Type 0} {to : X → A} {from : A → X} {lengthOf : ℕ → ℕ} {front : List ℕ → A} {write : X → List ℕ}
-         (exact : Exact to from lengthOf front write) where
+    (exact : Exact to from lengthOf front write) where
   -- one record that was read, in front of those behind it
   found-front : (left : List ℕ) (xs : List X) (rest : List ℕ) → Framed lengthOf left → to (from (front left)) ≡ front left →
-    drop (1 + getD left 0 0) left ≡ joined write xs ++ rest → left ≡ joined write (from (front left) ∷ xs) ++ rest
+      drop (1 + getD left 0 0) left ≡ joined write xs ++ rest → left ≡ joined write (from (front left) ∷ xs) ++ rest
   found-front left xs rest f known behind =
       let n = getD left 0 0 in
       let one : 1 + n ≡ suc n = omega arith in
@@ -131,27 +132,27 @@ module _ {X A : Type 0} {to : X → A} {from : A → X} {lengthOf : ℕ → ℕ}
 
   -- bytes that were cut into items were written from them
   pub cut-sound : (total n : ℕ) (left : List ℕ) (c : Cut A) → cut lengthOf front total n left ≡ Ok c →
-    map to (map from (c .items)) ≡ c .items → left ≡ joined write (map from (c .items)) ++ c .rest
+      map to (map from (c .items)) ≡ c .items → left ≡ joined write (map from (c .items)) ++ c .rest
   unfolding cut
   cut-sound total zero left c e known = ap (λ z. joined write (map from (z .items)) ++ z .rest) (ok-same e)
   cut-sound total (suc n) left c e known =
-    let p = unless-ok (recordFault lengthOf total left) _ c e in
-    let q = prepend-ok (front left) _ c (p .1) in
-    let d = q .0 in
-    let all = subst (λ l. map to (map from l) ≡ l) (q .2) known in
-    let here : to (from (front left)) ≡ front left = cc all in
-    let behind : map to (map from (d .items)) ≡ d .items = cc all in
-    found-front left (map from (d .items)) (d .rest)
+      let p = unless-ok (recordFault lengthOf total left) _ c e in
+      let q = prepend-ok (front left) _ c (p .1) in
+      let d = q .0 in
+      let all = subst (λ l. map to (map from l) ≡ l) (q .2) known in
+      let here : to (from (front left)) ≡ front left = cc all in
+      let behind : map to (map from (d .items)) ≡ d .items = cc all in
+      found-front left (map from (d .items)) (d .rest)
       (framed-from-none lengthOf total left (p .0)) here (cut-sound total n _ d (q .1) behind)
-    ∙ ap₂ (λ l r. joined write (map from l) ++ r) (sym (q .2)) (sym (q .3))
+      ∙ ap₂ (λ l r. joined write (map from l) ++ r) (sym (q .2)) (sym (q .3))
 
   -- bytes that were written are cut into the items
   pub cut-complete : (total : ℕ) (xs : List X) (rest : List ℕ) →
-    cut lengthOf front total (length xs) (joined write xs ++ rest) ≡ Ok (record { items = map to xs; rest = rest })
+      cut lengthOf front total (length xs) (joined write xs ++ rest) ≡ Ok (record { items = map to xs; rest = rest })
   unfolding cut
   cut-complete total [] rest = refl
   cut-complete total (x ∷ xs) rest =
-    let more = joined write xs ++ rest in
-    let w = exact .written x more in
-    let fine = none-from-framed lengthOf total (write x ++ more) (w .framed) in
-    rw (append-assoc (write x) (joined write xs) rest, fine, w .again, w .behind, cut-complete total xs rest) refl
+      let more = joined write xs ++ rest in
+      let w = exact .written x more in
+      let fine = none-from-framed lengthOf total (write x ++ more) (w .framed) in
+      rw (append-assoc (write x) (joined write xs) rest, fine, w .again, w .behind, cut-complete total xs rest) refl

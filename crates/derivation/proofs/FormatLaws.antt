@@ -54,17 +54,18 @@ header-from-none bytes e =
       counted = eqb-true (getD bytes 1 0 * 256 + getD bytes 2 0) (length bytes) (not-false _ (c .0));
       types = ltb-false 64 (getD bytes 3 0) (d .0);
       some = omega arith;
-      rows = ltb-false 128 (getD bytes 4 0) (g .1) }
+      rows = ltb-false 128 (getD bytes 4 0) (g .1);
+    }
 
 pub none-from-header : (bytes : List ℕ) → Header bytes → headerFault bytes ≡ None
 none-from-header bytes h =
     cond-false (ltb (length bytes) 5) _ _ (le-ltb (length bytes) 5 (h .long))
     ∙ cond-false (not (eqb (getD bytes 0 0) 1)) _ _ (not-from-true _ (eq-eqb (getD bytes 0 0) 1 (h .version)))
     ∙ cond-false (not (eqb (getD bytes 1 0 * 256 + getD bytes 2 0) (length bytes))) _ _
-      (not-from-true _ (eq-eqb (getD bytes 1 0 * 256 + getD bytes 2 0) (length bytes) (h .counted)))
+    (not-from-true _ (eq-eqb (getD bytes 1 0 * 256 + getD bytes 2 0) (length bytes) (h .counted)))
     ∙ cond-false (ltb 64 (getD bytes 3 0)) _ _ (le-ltb 64 (getD bytes 3 0) (h .types))
     ∙ cond-false (eqb (getD bytes 4 0) 0 || ltb 128 (getD bytes 4 0)) _ _
-      (or-from _ _ (ne-eqb (getD bytes 4 0) 0 (λ e. omega arith)) (le-ltb 128 (getD bytes 4 0) (h .rows)))
+    (or-from _ _ (ne-eqb (getD bytes 4 0) 0 (λ e. omega arith)) (le-ltb 128 (getD bytes 4 0) (h .rows)))
 
 -- validity, part by part
 
@@ -75,7 +76,7 @@ no-fault (Some r) e = absurd (false≢true e)
 
 -- a derivation is valid exactly if its numbers of types and rows are in bounds and no check finds a fault
 pub valid-parts : (es : List TypeEntry) (rows : List Row) → valid es rows ≡ true →
-  (length es ≤ 64) × (0 < length rows) × (length rows ≤ 128) × (fault es (map recordOf rows) ≡ None)
+    (length es ≤ 64) × (0 < length rows) × (length rows ≤ 128) × (fault es (map recordOf rows) ≡ None)
 unfolding valid
 valid-parts es rows v =
     let a = and-parts (leb (length es) 64) _ v in
@@ -84,12 +85,12 @@ valid-parts es rows v =
     (leb-true (length es) 64 (a .0), ltb-true 0 (length rows) (b .0), leb-true (length rows) 128 (c .0), no-fault _ (c .1))
 
 pub valid-from : (es : List TypeEntry) (rows : List Row) → length es ≤ 64 → 0 < length rows → length rows ≤ 128 →
-  fault es (map recordOf rows) ≡ None → valid es rows ≡ true
+    fault es (map recordOf rows) ≡ None → valid es rows ≡ true
 unfolding valid
 valid-from es rows t s r e =
     and-from _ _ (le-leb (length es) 64 t)
-      (and-from _ _ (lt-ltb 0 (length rows) s)
-      (and-from _ _ (le-leb (length rows) 128 r) (ap (λ o. not (isSome o)) e)))
+    (and-from _ _ (lt-ltb 0 (length rows) s)
+    (and-from _ _ (le-leb (length rows) 128 r) (ap (λ o. not (isSome o)) e)))
 
 -- the length of what is written
 
@@ -118,13 +119,13 @@ rows-length : (rows : List Row) → length (joined rowBytes rows) ≤ 6 * length
 rows-length [] = omega arith
 rows-length (row ∷ rows) =
     rw (length-append (rowBytes row) (joined rowBytes rows))
-      (omega (arith, rule-length (row .ty .0) (row .rule), rows-length rows))
+    (omega (arith, rule-length (row .ty .0) (row .rule), rows-length rows))
 
 -- no derivation has more bytes than this
 pub encode-bound : (es : List TypeEntry) (rows : List Row) → length es ≤ 64 → length rows ≤ 128 → length (encode es rows) ≤ 1029
 encode-bound es rows t r =
     rw (encode-length es rows, length-append (joined typeBytes es) (joined rowBytes rows))
-      (omega (arith, types-length es, rows-length rows))
+    (omega (arith, types-length es, rows-length rows))
 
 -- the whole
 
@@ -142,10 +143,10 @@ record Pieces (bytes : List ℕ) (p : Parsed) : Type 0 where
 
 -- behind the header and the types
 pieces-from-rows : (bytes : List ℕ) (p : Parsed) → Header bytes →
-  (ts : Cut TypeEntry) → cut typeLength frontType (length bytes) (getD bytes 3 0) (drop 5 bytes) ≡ Ok ts →
-  andThen (cut rowLength frontRow (length bytes) (getD bytes 4 0) (ts .rest))
+    (ts : Cut TypeEntry) → cut typeLength frontType (length bytes) (getD bytes 3 0) (drop 5 bytes) ≡ Ok ts →
+    andThen (cut rowLength frontRow (length bytes) (getD bytes 4 0) (ts .rest))
     (λ rs. unless (trailingFault (length bytes) (rs .rest)) (Ok (record { types = ts .items; records = rs .items }))) ≡ Ok p →
-  Pieces bytes p
+    Pieces bytes p
 pieces-from-rows bytes p h ts et e =
     let c = and-then-ok (cut rowLength frontRow (length bytes) (getD bytes 4 0) (ts .rest)) _ p e in
     let d = unless-ok (trailingFault (length bytes) (c .0 .rest)) _ p (c .2) in
@@ -154,7 +155,8 @@ pieces-from-rows bytes p h ts et e =
       header = h;
       middle = ts .rest;
       types-cut = et ∙ ap (λ q. Ok (record { items = q .types; rest = ts .rest })) same;
-      rows-cut = c .1 ∙ ap₂ (λ q l. Ok (record { items = q .records; rest = l })) same (nothing-left (length bytes) (c .0 .rest) (d .0)) }
+      rows-cut = c .1 ∙ ap₂ (λ q l. Ok (record { items = q .records; rest = l })) same (nothing-left (length bytes) (c .0 .rest) (d .0));
+    }
 
 -- bytes were read exactly if they have these parts
 pieces-from-parse : (bytes : List ℕ) (p : Parsed) → parse bytes ≡ Ok p → Pieces bytes p
@@ -170,7 +172,7 @@ parse-from-pieces bytes p x = rw (none-from-header bytes (x .header), x .types-c
 
 -- bytes whose header says what there is, and whose rest is the records, are written so
 encode-from-header : (bytes : List ℕ) (es : List TypeEntry) (rows : List Row) → Header bytes → getD bytes 2 0 < 256 →
-  length es ≡ getD bytes 3 0 → length rows ≡ getD bytes 4 0 → drop 5 bytes ≡ recordBytes es rows → bytes ≡ encode es rows
+    length es ≡ getD bytes 3 0 → length rows ≡ getD bytes 4 0 → drop 5 bytes ≡ recordBytes es rows → bytes ≡ encode es rows
 unfolding encode
 encode-from-header bytes es rows h low t r e =
     let hi = getD bytes 1 0 in
@@ -182,18 +184,18 @@ encode-from-header bytes es rows h low t r e =
 
 -- bytes that were read, with a rule in each row, are written so
 encode-from-pieces : (bytes : List ℕ) (p : Parsed) → getD bytes 2 0 < 256 → Pieces bytes p →
-  map recordOf (map rowOf (p .records)) ≡ p .records → bytes ≡ encode (p .types) (map rowOf (p .records))
+    map recordOf (map rowOf (p .records)) ≡ p .records → bytes ≡ encode (p .types) (map rowOf (p .records))
 encode-from-pieces bytes p low x known =
     encode-from-header bytes (p .types) (map rowOf (p .records)) (x .header) low
-      (cut-length typeLength frontType (length bytes) _ _ _ (x .types-cut))
-      (length-map (p .records) rowOf ∙ cut-length rowLength frontRow (length bytes) _ _ _ (x .rows-cut))
-      (cut-sound types-exact (length bytes) _ _ _ (x .types-cut) (map-id _ ∙ map-id _)
-        ∙ ap₂ (λ es l. joined typeBytes es ++ l) (map-id (p .types))
-          (cut-sound rows-exact (length bytes) _ _ _ (x .rows-cut) known ∙ append-nil _))
+    (cut-length typeLength frontType (length bytes) _ _ _ (x .types-cut))
+    (length-map (p .records) rowOf ∙ cut-length rowLength frontRow (length bytes) _ _ _ (x .rows-cut))
+    (cut-sound types-exact (length bytes) _ _ _ (x .types-cut) (map-id _ ∙ map-id _)
+    ∙ ap₂ (λ es l. joined typeBytes es ++ l) (map-id (p .types))
+    (cut-sound rows-exact (length bytes) _ _ _ (x .rows-cut) known ∙ append-nil _))
 
 -- and if no check finds a fault they are valid
 pieces-valid : (bytes : List ℕ) (p : Parsed) → Pieces bytes p → map recordOf (map rowOf (p .records)) ≡ p .records →
-  fault (p .types) (p .records) ≡ None → valid (p .types) (map rowOf (p .records)) ≡ true
+    fault (p .types) (p .records) ≡ None → valid (p .types) (map rowOf (p .records)) ≡ true
 pieces-valid bytes p x known e =
     let t = cut-length typeLength frontType (length bytes) _ _ _ (x .types-cut) in
     let r = length-map (p .records) rowOf ∙ cut-length rowLength frontRow (length bytes) _ _ _ (x .rows-cut) in
@@ -201,16 +203,16 @@ pieces-valid bytes p x known e =
 
 -- what is read is valid, and it was written so
 pub read-sound : (bytes : List ℕ) (d : Derivation) → ((i : ℕ) → i < length bytes → getD bytes i 0 < 256) → derivationOf bytes ≡ Ok d →
-  (bytes ≡ encode (d .types) (d .rows)) × (valid (d .types) (d .rows) ≡ true)
+    (bytes ≡ encode (d .types) (d .rows)) × (valid (d .types) (d .rows) ≡ true)
 unfolding derivationOf
 read-sound bytes d small e =
     let a = and-then-ok (parse bytes) _ d e in
     let b = unless-ok (fault (a .0 .types) (a .0 .records)) _ d (a .2) in
     subst (λ d. (bytes ≡ encode (d .types) (d .rows)) × (valid (d .types) (d .rows) ≡ true)) (ok-same (b .1))
-      (of-parsed (a .0) (pieces-from-parse bytes (a .0) (a .1)) (b .0))
+    (of-parsed (a .0) (pieces-from-parse bytes (a .0) (a .1)) (b .0))
   where
     of-parsed : (p : Parsed) → Pieces bytes p → fault (p .types) (p .records) ≡ None →
-      (bytes ≡ encode (p .types) (map rowOf (p .records))) × (valid (p .types) (map rowOf (p .records)) ≡ true)
+        (bytes ≡ encode (p .types) (map rowOf (p .records))) × (valid (p .types) (map rowOf (p .records)) ≡ true)
     of-parsed p x f =
         let behind-types = or-else-both (typesFault (p .types)) _ f .1 in
         let known = rows-known (p .types) [] (p .records) (or-else-both (rowsFault (p .types) (p .records)) _ behind-types .0) in
@@ -220,16 +222,17 @@ read-sound bytes d small e =
 encode-header : (es : List TypeEntry) (rows : List Row) → length es ≤ 64 → 0 < length rows → length rows ≤ 128 → Header (encode es rows)
 unfolding encode
 encode-header es rows t s r = record {
-    long = omega arith;
-    version = refl;
-    counted = div-add-mod' (5 + length (recordBytes es rows)) 256 ∙ sym (encode-length es rows);
-    types = t;
-    some = s;
-    rows = r }
+  long = omega arith;
+  version = refl;
+  counted = div-add-mod' (5 + length (recordBytes es rows)) 256 ∙ sym (encode-length es rows);
+  types = t;
+  some = s;
+  rows = r;
+}
 
 -- what is written has its parts
 encode-pieces : (es : List TypeEntry) (rows : List Row) → length es ≤ 64 → 0 < length rows → length rows ≤ 128 →
-  Pieces (encode es rows) (record { types = es; records = map recordOf rows })
+    Pieces (encode es rows) (record { types = es; records = map recordOf rows })
 unfolding encode
 encode-pieces es rows t s r =
     let total = length (encode es rows) in
@@ -237,11 +240,12 @@ encode-pieces es rows t s r =
       header = encode-header es rows t s r;
       middle = joined rowBytes rows;
       types-cut =
-        cut-complete types-exact total es (joined rowBytes rows)
-        ∙ ap (λ l. Ok (record { items = l; rest = joined rowBytes rows })) (map-id es);
+          cut-complete types-exact total es (joined rowBytes rows)
+          ∙ ap (λ l. Ok (record { items = l; rest = joined rowBytes rows })) (map-id es);
       rows-cut =
-        ap (cut rowLength frontRow total (length rows)) (sym (append-nil (joined rowBytes rows)))
-        ∙ cut-complete rows-exact total rows [] }
+          ap (cut rowLength frontRow total (length rows)) (sym (append-nil (joined rowBytes rows)))
+          ∙ cut-complete rows-exact total rows [];
+    }
 
 -- what is valid is read as it was written
 pub read-complete : (es : List TypeEntry) (rows : List Row) → valid es rows ≡ true → derivationOf (encode es rows) ≡ Ok (record { types = es; rows = rows })

@@ -37,7 +37,7 @@ type-unknown kind h = rw (above 1 kind (omega arith), above 2 kind h) refl
 
 -- the bytes of a type record by its kind
 type-found : (kind : ℕ) (left : List ℕ) → getD left 1 0 ≡ kind → typeLength kind ≡ getD left 0 0 → Framed typeLength left →
-  take (suc (getD left 0 0)) left ≡ typeBytes (record { kind = typeKind kind; left = record { 0 = getD left 2 0 }; right = record { 0 = getD left 3 0 } })
+    take (suc (getD left 0 0)) left ≡ typeBytes (record { kind = typeKind kind; left = record { 0 = getD left 2 0 }; right = record { 0 = getD left 3 0 } })
 type-found zero left k e f = absurd (omega arith)
 type-found (suc zero) left k e f = rw (← e) (take-firsts 0 4 left (omega arith) ∙ cc)
 type-found (suc (suc zero)) left k e f = rw (← e) (take-firsts 0 4 left (omega arith) ∙ cc)
@@ -57,7 +57,7 @@ kind-again PairKind = refl
 type-written : (e : TypeEntry) (rest : List ℕ) → Written typeLength frontType (typeBytes e) rest e
 type-written e rest =
     written-from typeLength frontType 3 (kindCode (e .kind)) (e .left .0 ∷ e .right .0 ∷ []) rest e refl (kind-length (e .kind))
-      (ap (λ k. record { kind = k; left = e .left; right = e .right }) (kind-again (e .kind)))
+    (ap (λ k. record { kind = k; left = e .left; right = e .right }) (kind-again (e .kind)))
 
 pub types-exact : Exact (λ e. e) (λ e. e) typeLength frontType typeBytes
 types-exact = record { written = type-written; found = λ left f known. type-found (getD left 1 0) left refl (f .fitting) f }
@@ -66,10 +66,17 @@ types-exact = record { written = type-written; found = λ left f known. type-fou
 
 -- a number above 8 is none of those up to 8
 above-eight : (n : ℕ) → 8 < n →
-  (eqb n 1 ≡ false) × (eqb n 2 ≡ false) × (eqb n 3 ≡ false) × (eqb n 4 ≡ false) × (eqb n 5 ≡ false) × (eqb n 6 ≡ false) × (eqb n 7 ≡ false) × (eqb n 8 ≡ false)
-above-eight n h =
-    (above 1 n (omega arith), above 2 n (omega arith), above 3 n (omega arith), above 4 n (omega arith),
-     above 5 n (omega arith), above 6 n (omega arith), above 7 n (omega arith), above 8 n h)
+    (eqb n 1 ≡ false) × (eqb n 2 ≡ false) × (eqb n 3 ≡ false) × (eqb n 4 ≡ false) × (eqb n 5 ≡ false) × (eqb n 6 ≡ false) × (eqb n 7 ≡ false) × (eqb n 8 ≡ false)
+above-eight n h = (
+  above 1 n (omega arith),
+  above 2 n (omega arith),
+  above 3 n (omega arith),
+  above 4 n (omega arith),
+  above 5 n (omega arith),
+  above 6 n (omega arith),
+  above 7 n (omega arith),
+  above 8 n h,
+)
 
 -- no further gates
 gate-unknown : (c : ℕ) → 8 < c → gateOf c ≡ None
@@ -112,8 +119,8 @@ row-unknown kind h = let a = above-eight kind h in rw (a .0, a .1, a .2, a .3, a
 
 -- the bytes of a row record by its kind
 row-found : (kind : ℕ) (left : List ℕ) → getD left 1 0 ≡ kind → rowLength kind ≡ getD left 0 0 → Framed rowLength left →
-  Known (ruleOf kind (getD left 3 0) (getD left 4 0) (getD left 5 0)) →
-  take (suc (getD left 0 0)) left ≡ ruleBytes (getD left 2 0) (ruleOr (ruleOf kind (getD left 3 0) (getD left 4 0) (getD left 5 0)))
+    Known (ruleOf kind (getD left 3 0) (getD left 4 0) (getD left 5 0)) →
+    take (suc (getD left 0 0)) left ≡ ruleBytes (getD left 2 0) (ruleOr (ruleOf kind (getD left 3 0) (getD left 4 0) (getD left 5 0)))
 row-found zero left k e f known = absurd (omega arith)
 row-found (suc zero) left k e f known = rw (← e) (take-firsts 0 3 left (omega arith) ∙ cc)
 row-found (suc (suc zero)) left k e f known = rw (← e) (take-firsts 0 3 left (omega arith) ∙ cc)
@@ -128,7 +135,7 @@ row-found (suc (suc (suc (suc (suc (suc (suc (suc (suc n))))))))) left k e f kno
 
 -- a rule's record is read as the rule
 rule-written : (t : ℕ) (rule : Rule) (rest : List ℕ) →
-  Written rowLength frontRow (ruleBytes t rule) rest (record { ty = record { 0 = t }; rule = Some rule })
+    Written rowLength frontRow (ruleBytes t rule) rest (record { ty = record { 0 = t }; rule = Some rule })
 rule-written t Variable rest = written-from rowLength frontRow 2 1 (t ∷ []) rest _ refl refl refl
 rule-written t Zero rest = written-from rowLength frontRow 2 2 (t ∷ []) rest _ refl refl refl
 rule-written t One rest = written-from rowLength frontRow 2 3 (t ∷ []) rest _ refl refl refl
@@ -140,8 +147,9 @@ rule-written t (Pair l r) rest = written-from rowLength frontRow 4 8 (t ∷ l .0
 
 pub rows-exact : Exact recordOf rowOf rowLength frontRow rowBytes
 rows-exact = record {
-    written = λ row rest. rule-written (row .ty .0) (row .rule) rest;
-    found = λ left f known. row-found (getD left 1 0) left refl (f .fitting) f (ap (λ r. r .rule) known) }
+  written = λ row rest. rule-written (row .ty .0) (row .rule) rest;
+  found = λ left f known. row-found (getD left 1 0) left refl (f .fitting) f (ap (λ r. r .rule) known);
+}
 
 -- a row without fault has a rule
 known-from : (es : List TypeEntry) (done : List Row) (t : ℕ) (o : Option Rule) → knownFault es done t o ≡ None → Known o
@@ -150,15 +158,15 @@ known-from es done t (Some rule) e = refl
 
 -- rows without fault are the records that they were read from
 pub rows-known : (es : List TypeEntry) (done : List Row) (records : List Record) →
-  firstFault (rowFault es) rowOf done records ≡ None → map recordOf (map rowOf records) ≡ records
+    firstFault (rowFault es) rowOf done records ≡ None → map recordOf (map rowOf records) ≡ records
 unfolding firstFault
 rows-known es done [] e = refl
 rows-known es done (r ∷ rs) e =
     let p = or-else-both (rowFault es done r) _ e in
     let q = cond-some-none (ltb (length es) (r .ty .0)) _ _ (p .0) in
     ap₂ (λ o l. record { ty = r .ty; rule = o } ∷ l)
-      (known-from es done (r .ty .0) (r .rule) (q .1))
-      (rows-known es (done ++ (rowOf r ∷ [])) rs (p .1))
+    (known-from es done (r .ty .0) (r .rule) (q .1))
+    (rows-known es (done ++ (rowOf r ∷ [])) rs (p .1))
 
 -- rows are found again in what is read of them
 pub rows-again : (rows : List Row) → map rowOf (map recordOf rows) ≡ rows

@@ -57,7 +57,7 @@ whole-none es rows u w = or-else-none _ _ u ∙ ap (λ b. cond b (Some (TooManyW
 
 -- the checks of types and rows, as the code makes them
 pub sound-from : (es : List TypeEntry) (records : List Record) (sizes : List Size) (rows : List Row) (envs : List ℕ) (m : ℕ) →
-  length es ≤ 64 → 0 < length records → length records ≤ 128 → typesFault es ≡ None → rowsFault es records ≡ None → sizes ≡ map sizeOf (trees es) → Knows rows envs m (map rowOf records) → Sound es sizes rows envs m
+    length es ≤ 64 → 0 < length records → length records ≤ 128 → typesFault es ≡ None → rowsFault es records ≡ None → sizes ≡ map sizeOf (trees es) → Knows rows envs m (map rowOf records) → Sound es sizes rows envs m
 sound-from es records sizes rows envs m few some many t r s k =
     let long = ap length (k .same) ∙ length-map records rowOf in
     record {

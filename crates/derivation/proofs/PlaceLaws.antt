@@ -100,8 +100,8 @@ pub count-parts : (p q : ℕ → Bool) (m n : ℕ) → count (λ i. cond (ltb i 
 count-parts p q m n =
     sumTo-append _ m n
     ∙ ap₂ _+_
-      (sumTo-same _ _ m (λ i l. rw (lt-ltb i m l) refl))
-      (sumTo-same _ _ n (λ i l. rw (le-ltb (m + i) m (omega arith), add-sub-cancel-left m i) refl))
+    (sumTo-same _ _ m (λ i l. rw (lt-ltb i m l) refl))
+    (sumTo-same _ _ n (λ i l. rw (le-ltb (m + i) m (omega arith), add-sub-cancel-left m i) refl))
 
 -- those that fail are the rest
 pub count-rest : (p : ℕ → Bool) (n k : ℕ) → count p n ≡ k → count (λ i. not (p i)) n ≡ n - k
@@ -129,9 +129,9 @@ pub size-places-at : (size : List Place → ℕ) → size [] ≡ 0 → ((xs ys :
 size-places-at size none both es rows r f k variables type =
     both _ (placesIn r Ty (treeAt es rows r))
     ∙ ap₂ _+_
-      (size-members size none both (envAt rows r) (λ x. placesIn r (Var (record { 0 = x })) (treeAt es rows x)) (length rows)
-        ∙ weight-same (envAt rows r) (length rows) _ f (λ x l h. variables x))
-      type
+    (size-members size none both (envAt rows r) (λ x. placesIn r (Var (record { 0 = x })) (treeAt es rows x)) (length rows)
+    ∙ weight-same (envAt rows r) (length rows) _ f (λ x l h. variables x))
+    type
 
 -- the places of a row
 pub length-places-at : (es : List TypeEntry) (rows : List Row) (r : ℕ)
@@ -171,8 +171,8 @@ length-keep-map {A} t g n =
 -- the given wires: the positive atoms of the last row's variables, and the negative atoms of its type
 pub length-given : (es : List TypeEntry) (rows : List Row)
     → length (given es rows)
-      ≡ weight (envAt rows (length rows - 1)) (λ x. positives (treeAt es rows x)) (length rows)
-      + (atoms (treeAt es rows (length rows - 1)) - positives (treeAt es rows (length rows - 1)))
+    ≡ weight (envAt rows (length rows - 1)) (λ x. positives (treeAt es rows x)) (length rows)
+    + (atoms (treeAt es rows (length rows - 1)) - positives (treeAt es rows (length rows - 1)))
 unfolding given
 length-given es rows =
     let last = length rows - 1 in

@@ -327,7 +327,7 @@ module _ (rows : List Row) (low : Low rows) where
   env-from r z h e =
       ⊎-elim (λ q. inl (has-introduced r (ruleAt rows r) z q)) (λ q. inr q)
       (has-gathered (introduced r (ruleAt rows r)) (environments rows) (premisesAt rows r) z
-        (has-less _ (binders (ruleAt rows r)) z (ap (λ m. has m z) (sym (env-row rows r h (low r h))) ∙ e)))
+      (has-less _ (binders (ruleAt rows r)) z (ap (λ m. has m z) (sym (env-row rows r h (low r h))) ∙ e)))
 
   -- the variables of a row are not above it
   env-low-below : (n r z : ℕ) → r < n → r < length rows → has (envAt rows r) z ≡ true → z ≤ r
@@ -359,8 +359,8 @@ module _ (rows : List Row) (low : Low rows) (free : Free rows) where
       let e = uses-more rows k q h in
       ⊎-elim (λ (c : z ≡ k). omega (arith, env-low rows low q z (omega arith) hq))
       (λ c. before (getD (premisesAt rows k) (c .0) 0) q (low k h (c .0) (c .1)) l
-        (λ same. omega (arith, occurrences-at (premisesAt rows k) (c .0) (c .1), ap (λ p. occurrences p (premisesAt rows k)) same))
-        (premise-free rows free k (c .0) h (c .1)) (omega arith) z (c .2) hq)
+      (λ same. omega (arith, occurrences-at (premisesAt rows k) (c .0) (c .1), ap (λ p. occurrences p (premisesAt rows k)) same))
+      (premise-free rows free k (c .0) h (c .1)) (omega arith) z (c .2) hq)
       (env-from rows low k z h hk)
 
   apart-front : (k : ℕ) → k ≤ length rows → ApartFront rows k
@@ -371,9 +371,9 @@ module _ (rows : List Row) (low : Low rows) (free : Free rows) where
       let eq = uses-more rows k q h in
       ⊎-elim
       (λ (lp : p < k). ⊎-elim
-        (λ (lq : q < k). before p q lp lq d (omega arith) (omega arith) z zp zq)
-        (λ (lq : k ≤ q). let same : k ≡ q = omega arith in apart-last k h before p lp up z (ap (λ r. has (envAt rows r) z) same ∙ zq) zp)
-        (cases-lt q k))
+      (λ (lq : q < k). before p q lp lq d (omega arith) (omega arith) z zp zq)
+      (λ (lq : k ≤ q). let same : k ≡ q = omega arith in apart-last k h before p lp up z (ap (λ r. has (envAt rows r) z) same ∙ zq) zp)
+      (cases-lt q k))
       (λ (lp : k ≤ p). let same : k ≡ p = omega arith in apart-last k h before q (omega arith) uq z (ap (λ r. has (envAt rows r) z) same ∙ zp) zq)
       (cases-lt p k)
 
@@ -384,5 +384,5 @@ module _ (rows : List Row) (low : Low rows) (free : Free rows) where
       let unused = subst (λ ps. (i : ℕ) → i < length ps → uses (take k rows) (getD ps i 0) ≡ 0) e (λ i. premise-free rows free k i h) in
       let once = subst (λ ps. count (has (taken (take k rows)) p) + occurrences p ps ≤ 1) e (none-in-from _ _ (free k h) p) in
       apart-front k (omega arith) p q (below 0 (omega arith)) (below 1 (omega arith))
-        (λ same. omega (arith, once, ap count (eq-eqb p p refl), ap count (eq-eqb q p (sym same))))
-        (unused 0 (omega arith)) (unused 1 (omega arith))
+      (λ same. omega (arith, once, ap count (eq-eqb p p refl), ap count (eq-eqb q p (sym same))))
+      (unused 0 (omega arith)) (unused 1 (omega arith))

@@ -143,7 +143,7 @@ module _ (es : List TypeEntry) where
   fresh-to f t h =
       let n = length-take-le t es (omega arith) in
       listed-none (take t es) (entry es t) noEntry
-        (λ s l. ap (λ d. sameEntry d (entry es t)) (getD-take t es s noEntry (omega arith)) ∙ not-so _ (f s t (omega arith) h))
+      (λ s l. ap (λ d. sameEntry d (entry es t)) (getD-take t es s noEntry (omega arith)) ∙ not-so _ (f s t (omega arith) h))
 
   -- no entry stands in a table twice exactly if no two have one tree
   distinct-below : Lower es → Fresh es → (n s t : ℕ) → s < n → t < n → s ≤ length es → t ≤ length es → tree es s ≡ tree es t → s ≡ t
@@ -159,8 +159,8 @@ module _ (es : List TypeEntry) where
       let er = distinct-below low fresh n (entry es s .right .0) (entry es t .right .0) (omega arith) (omega arith) (omega arith) (omega arith) r in
       ⊎-elim (λ (q : s ≡ t). ap suc q)
       (⊎-elim
-        (λ (q : s < t). absurd (fresh s t q lt (entry-same _ _ k el er)))
-        (λ (q : t < s). absurd (fresh t s q ls (entry-same _ _ (sym k) (sym el) (sym er)))))
+      (λ (q : s < t). absurd (fresh s t q lt (entry-same _ _ k el er)))
+      (λ (q : t < s). absurd (fresh t s q ls (entry-same _ _ (sym k) (sym el) (sym er)))))
       (cases-order s t)
 
   distinct-from : Lower es → Fresh es → Distinct es
@@ -191,7 +191,7 @@ module _ (es : List TypeEntry) where
         left-low = omega (arith, leb-false _ _ left);
         right-low = omega (arith, leb-false _ _ right);
         new = new;
-        light = ltb-false _ _ (cond-none _ _ _ f2 .0)
+        light = ltb-false _ _ (cond-none _ _ _ f2 .0);
       }
 
   sound-to : (t : ℕ) (e : TypeEntry) → t ≤ length es → Sound es t e → typeFault (take t es) e ≡ None
@@ -212,7 +212,7 @@ module _ (es : List TypeEntry) where
   sounds-to : ((t : ℕ) → t < length es → Sound es t (entry es t)) → typesFault es ≡ None
   sounds-to s =
       none-to typeFault (λ c. c) [] es noEntry
-        (λ t h. ap (λ ds. typeFault ds (entry es t)) (map-id (take t es)) ∙ sound-to t (entry es t) (omega arith) (s t h))
+      (λ t h. ap (λ ds. typeFault ds (entry es t)) (map-id (take t es)) ∙ sound-to t (entry es t) (omega arith) (s t h))
 
   -- a table keeps its rules exactly if it has no fault
   pub table-from : length es ≤ 64 → typesFault es ≡ None → Table es
@@ -222,7 +222,7 @@ module _ (es : List TypeEntry) where
         few = few;
         lower = low;
         distinct = distinct-from es low (fresh-from es (λ t h. sounds-from f t noEntry h .new));
-        small = small
+        small = small;
       }
     where
       small : (t : ℕ) → t ≤ length es → atoms (tree es t) ≤ 16
@@ -231,11 +231,11 @@ module _ (es : List TypeEntry) where
 
   pub table-to : Table es → typesFault es ≡ None
   table-to table = sounds-to (λ t h. record {
-      left-low = table .lower t h noEntry .0;
-      right-low = table .lower t h noEntry .1;
-      new = fresh-to es (distinct-to es (table .lower) (table .distinct)) t h;
-      light = subst (λ a. atoms a ≤ 16) (tree-unfolded es t noEntry h) (table .small (suc t) h)
-    })
+    left-low = table .lower t h noEntry .0;
+    right-low = table .lower t h noEntry .1;
+    new = fresh-to es (distinct-to es (table .lower) (table .distinct)) t h;
+    light = subst (λ a. atoms a ≤ 16) (tree-unfolded es t noEntry h) (table .small (suc t) h);
+  })
 
 -- an entry that passes a test has the tree that the test is for
 module _ (es : List TypeEntry) (low : Lower es) where
@@ -273,7 +273,7 @@ module _ (es : List TypeEntry) (table : Table es) where
         left-known = omega arith;
         right-known = omega arith;
         left-tree = p;
-        right-tree = q
+        right-tree = q;
       }
 
   pub node-tree : (kind : TypeKind) (t l r : ℕ) → t ≤ length es → l ≤ length es → r ≤ length es
@@ -291,5 +291,5 @@ module _ (es : List TypeEntry) (table : Table es) where
       let p = parts Pair t qubit (power (suc n)) l e in
       let el = table .distinct _ 0 (p .left-known) (omega arith) (p .left-tree ∙ sym (tree-zero es)) in
       and-from (isNode es Pair t 0 (rightPart es t)) _
-        (subst (λ i. isNode es Pair t i (rightPart es t) ≡ true) el (p .test))
-        (power-tree (suc n) (rightPart es t) (omega arith) (p .right-known) (p .right-tree))
+      (subst (λ i. isNode es Pair t i (rightPart es t) ≡ true) el (p .test))
+      (power-tree (suc n) (rightPart es t) (omega arith) (p .right-known) (p .right-tree))

@@ -90,9 +90,10 @@ module _ (ds : List TypeEntry) (e : TypeEntry) (sizes : List Size) (d : Size) (s
 
   pub entry-fine : (s : Size) → listed ds e ≡ false → Joins (Some s) → (typeFault ds e ≡ None) × (s ≡ sizeOf (unfolded (trees ds) e))
   entry-fine s l j =
-      let h = some-below _ s _ j in
-      (fine ds e left right l (subst (λ n. n ≤ 16) sum-is (ltb-false 16 _ (h .0))),
-       h .1 ∙ ap₂ (λ (a c : Size). joinedSize (e .kind) a c) left-size right-size ∙ sym (size-node (e .kind) (getD (trees ds) (e .left .0) qubit) (getD (trees ds) (e .right .0) qubit)))
+      let h = some-below _ s _ j in (
+        fine ds e left right l (subst (λ n. n ≤ 16) sum-is (ltb-false 16 _ (h .0))),
+        h .1 ∙ ap₂ (λ (a c : Size). joinedSize (e .kind) a c) left-size right-size ∙ sym (size-node (e .kind) (getD (trees ds) (e .left .0) qubit) (getD (trees ds) (e .right .0) qubit)),
+      )
 
   pub entry-wide : listed ds e ≡ false → Joins None → typeFault ds e ≡ Some (TooManyAtoms (record { 0 = suc (length ds) }))
   entry-wide l j = wide ds e left right l (subst (λ n. 16 < n) sum-is (ltb-true 16 _ (none-above _ _ j)))

@@ -52,15 +52,15 @@ weight-more a b x zero f u v h l = absurd (omega arith)
 weight-more a b x (suc n) f u v h l =
     ⊎-elim
     (λ (k : x < n).
-      let ih = weight-more a b x n f u v h k in
-      let e = h n (λ (q : n ≡ x). omega arith) in
-      rw e (omega arith))
+    let ih = weight-more a b x n f u v h k in
+    let e = h n (λ (q : n ≡ x). omega arith) in
+    rw e (omega arith))
     (λ (k : n ≤ x).
-      let e : x ≡ n = omega arith in
-      let u′ = rw e at u in
-      let v′ = rw e at v in
-      let same = weight-alike a b n f (λ z q. h z (λ (p : z ≡ x). omega arith)) in
-      rw (u′, v′, e) (omega arith))
+    let e : x ≡ n = omega arith in
+    let u′ = rw e at u in
+    let v′ = rw e at v in
+    let same = weight-alike a b n f (λ z q. h z (λ (p : z ≡ x). omega arith)) in
+    rw (u′, v′, e) (omega arith))
     (cases-lt x n)
 
 -- the set of x alone
@@ -134,7 +134,7 @@ sumBy-map f g (x ∷ xs) =
 -- the same of row r, by the rows that are its premises
 pub weight-follows : (es : List TypeEntry) (rows : List Row) (r : ℕ) → Follows es rows r → (f : ℕ → ℕ) (n : ℕ) → allBelow n (binders (ruleAt rows r)) ≡ true
     → weight (envAt rows r) f n + sumBy f (binders (ruleAt rows r))
-      ≡ weight (introduced r (ruleAt rows r)) f n + sumBy (λ p. weight (envAt rows p) f n) (premises (ruleAt rows r))
+    ≡ weight (introduced r (ruleAt rows r)) f n + sumBy (λ p. weight (envAt rows p) f n) (premises (ruleAt rows r))
 weight-follows es rows r h f n l =
     weight-infers h f n l
     ∙ ap (λ w. weight (introduced r (ruleAt rows r)) f n + w) (sumBy-map (λ p. weight (p .env) f n) (judged es rows) (premises (ruleAt rows r)))

@@ -12,6 +12,8 @@ use Rattle.derivation.specs.Trees.{trees}
 use Rattle.derivation.specs.Rows.{environments, taken, zeroRow}
 use Rattle.derivation.specs.Places.{given, places, wires, gateRows, moves}
 use Rattle.derivation.specs.Accepted.{valid}
+use Rattle.derivation.specs.Format.{derivationOf, parse, cut}
+use Rattle.derivation.specs.Examples.{Examples}
 
 -- a new holder: one zero row
 new-valid : valid [] (zeroRow ∷ []) ≡ true
@@ -30,3 +32,17 @@ new-moves = refl
 pub new-facts : (es : List TypeEntry) (rows : List Row) → es ≡ [] → rows ≡ zeroRow ∷ [] → (valid es rows ≡ true) × (1 ≡ wires es rows) × (0 ≡ gateRows rows) × (0 ≡ moves es rows)
 new-facts es rows te re =
     (ap₂ valid te re ∙ new-valid, sym (ap₂ wires te re ∙ new-wires), sym (ap gateRows re), sym (ap₂ moves te re ∙ new-moves))
+
+-- what the definitions compute to on numerals
+pub examples : Examples
+unfolding derivationOf parse cut valid firstFault grown trees environments taken given places has only union without
+examples = record {
+  empty-input = refl;
+  bell-counts = refl;
+  bell-twice = refl;
+  new-wires = refl;
+  new-moves = refl;
+  hx-counts = refl;
+  swap-counts = refl;
+  cx-counts = refl;
+}

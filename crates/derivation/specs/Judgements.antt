@@ -16,7 +16,6 @@ use Rattle.derivation.specs.Trees.{Tree, qubit, arrow, pair, power, tree}
 use Rattle.derivation.specs.Rows.{premises, environments, noRow, typeAt}
 
 infix 20 _⊢_
-
 -- a judgement: from the variables of a set follows a value of a type
 pub record Judgement : Type 0 where
   pub env : ℕ

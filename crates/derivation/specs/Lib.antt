@@ -15,3 +15,4 @@ pub mod Written
 pub mod Held
 pub mod Reading
 pub mod Booking
+pub mod Examples

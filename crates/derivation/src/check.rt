@@ -11,6 +11,7 @@ ghost use Rattle.derivation.specs.Accepted.{rowsFault};
 ghost use Rattle.derivation.specs.Faults.{Checked as Passes};
 ghost use Rattle.derivation.specs.Rows.{allBelow, bindsFree, entryAt, environment as environmentOf, environments, fits as fitsRule, including, isNode, isPower, Knows, lowestMissing, noneIn, premises, rowFault, rowOf, ruleFault, taken as takenBy, typeAt};
 use crate::refusal::Refusal;
+use crate::refusal::RefusalFromRefused;
 use crate::rows::Record;
 use crate::rows::Row;
 use crate::rows::RowId;
@@ -20,11 +21,10 @@ use crate::sets::only;
 use crate::sets::union;
 use crate::sets::without;
 use crate::types::TypeEntry;
+use crate::types::TypeEntryEq;
 use crate::types::TypeId;
 use crate::types::TypeKind;
 use std::alloc::Global;
-use crate::types::TypeEntryEq;
-use crate::refusal::RefusalFromRefused;
 
 // Whether entry t of the table is of this kind, with these parts.
 fn is_node(types: &[TypeEntry], kind: TypeKind, t: TypeId, left: TypeId, right: TypeId) -> bool
@@ -69,14 +69,22 @@ fn is_power(types: &[TypeEntry], n: u8, t: TypeId) -> bool
 fn type_at(rows: &[Row], r: RowId) -> TypeId
     ensures { λ t. ⌜ t .0 ≡ typeAt (now (rows .entry)) (r .0) ⌝ }
 {
-    if (r.0 as usize) < rows.len() { rows[r.0 as usize].ty } else { TypeId(0) }
+    if (r.0 as usize) < rows.len() {
+        rows[r.0 as usize].ty
+    } else {
+        TypeId(0)
+    }
 }
 
 // The environment of row r, or none where there is no such row.
 fn env_at(envs: &[u128], r: RowId) -> u128
     ensures { λ m. ⌜ m ≡ getD (now (envs .entry)) (r .0) 0 ⌝ }
 {
-    if (r.0 as usize) < envs.len() { envs[r.0 as usize] } else { 0 }
+    if (r.0 as usize) < envs.len() {
+        envs[r.0 as usize]
+    } else {
+        0
+    }
 }
 
 // Whether each premise of the rule is below k.
@@ -86,7 +94,11 @@ fn premises_lower(rule: Rule, k: u8) -> bool
     match rule {
         Rule::Variable | Rule::Zero | Rule::One | Rule::Gate(_) => true,
         Rule::Lambda { premise, .. } | Rule::PairLambda { premise, .. } => premise.0 < k,
-        Rule::Apply { function: p, argument: q } | Rule::Pair { left: p, right: q } => p.0 < k && q.0 < k,
+        Rule::Apply {
+            function: p,
+            argument: q,
+        }
+        | Rule::Pair { left: p, right: q } => p.0 < k && q.0 < k,
     }
 }
 
@@ -107,7 +119,11 @@ fn premises_free(rule: Rule, taken: u128) -> bool
     match rule {
         Rule::Variable | Rule::Zero | Rule::One | Rule::Gate(_) => true,
         Rule::Lambda { premise, .. } | Rule::PairLambda { premise, .. } => !has(taken, premise.0),
-        Rule::Apply { function: p, argument: q } | Rule::Pair { left: p, right: q } => both_free(taken, p, q),
+        Rule::Apply {
+            function: p,
+            argument: q,
+        }
+        | Rule::Pair { left: p, right: q } => both_free(taken, p, q),
     }
 }
 
@@ -118,10 +134,15 @@ fn with_premises(taken: u128, rule: Rule) -> u128
 {
     match rule {
         Rule::Variable | Rule::Zero | Rule::One | Rule::Gate(_) => taken,
-        Rule::Lambda { premise, .. } | Rule::PairLambda { premise, .. } => union(taken, only(premise.0)),
-        Rule::Apply { function: p, argument: q } | Rule::Pair { left: p, right: q } => {
-            union(union(taken, only(p.0)), only(q.0))
+        Rule::Lambda { premise, .. } | Rule::PairLambda { premise, .. } => union(
+            taken,
+            only(premise.0),
+        ),
+        Rule::Apply {
+            function: p,
+            argument: q,
         }
+        | Rule::Pair { left: p, right: q } => { union(union(taken, only(p.0)), only(q.0)) }
     }
 }
 
@@ -152,24 +173,55 @@ fn fits(types: &[TypeEntry], rows: &[Row], t: TypeId, rule: Rule) -> bool
             is_node(types, TypeKind::Arrow, t, side, side) && is_power(types, gate.arity(), side)
         }
         Rule::Lambda { premise, x } => {
-            is_node(types, TypeKind::Arrow, t, type_at(rows, x), type_at(rows, premise))
+            is_node(
+                types,
+                TypeKind::Arrow,
+                t,
+                type_at(rows, x),
+                type_at(rows, premise),
+            )
         }
         Rule::PairLambda { premise, x, y } => {
             let both = entry_at(types, t).left;
             is_node(types, TypeKind::Arrow, t, both, type_at(rows, premise))
-                && is_node(types, TypeKind::Pair, both, type_at(rows, x), type_at(rows, y))
+                && is_node(
+                    types,
+                    TypeKind::Pair,
+                    both,
+                    type_at(rows, x),
+                    type_at(rows, y),
+                )
         }
         Rule::Apply { function, argument } => {
-            is_node(types, TypeKind::Arrow, type_at(rows, function), type_at(rows, argument), t)
+            is_node(
+                types,
+                TypeKind::Arrow,
+                type_at(rows, function),
+                type_at(rows, argument),
+                t,
+            )
         }
         Rule::Pair { left, right } => {
-            is_node(types, TypeKind::Pair, t, type_at(rows, left), type_at(rows, right))
+            is_node(
+                types,
+                TypeKind::Pair,
+                t,
+                type_at(rows, left),
+                type_at(rows, right),
+            )
         }
     }
 }
 
 // What is wrong with a rule at type t, behind the rows so far; envs are their environments, and taken their premises.
-fn rule_fault(types: &[TypeEntry], rows: &[Row], envs: &[u128], taken: u128, t: TypeId, rule: Rule) -> Option<Refusal>
+fn rule_fault(
+    types: &[TypeEntry],
+    rows: &[Row],
+    envs: &[u128],
+    taken: u128,
+    t: TypeId,
+    rule: Rule,
+) -> Option<Refusal>
     requires few { ⌜ length (now rows) < 128 ⌝ }
     requires envs { ⌜ now envs ≡ environments (now rows) ⌝ }
     requires taken { ⌜ taken ≡ takenBy (now rows) ⌝ }
@@ -192,7 +244,13 @@ fn rule_fault(types: &[TypeEntry], rows: &[Row], envs: &[u128], taken: u128, t: 
 }
 
 // The row of a record, behind the rows so far, or what is wrong with it.
-fn checked_row(types: &[TypeEntry], rows: &[Row], envs: &[u128], taken: u128, read: Record) -> Result<Row, Refusal>
+fn checked_row(
+    types: &[TypeEntry],
+    rows: &[Row],
+    envs: &[u128],
+    taken: u128,
+    read: Record,
+) -> Result<Row, Refusal>
     requires few { ⌜ length (now rows) < 128 ⌝ }
     requires envs { ⌜ now envs ≡ environments (now rows) ⌝ }
     requires taken { ⌜ taken ≡ takenBy (now rows) ⌝ }
@@ -221,7 +279,11 @@ fn environment(envs: &[u128], row: Row) -> u128
         Rule::Zero | Rule::One | Rule::Gate(_) => 0,
         Rule::Lambda { premise, x } => without(env_at(envs, premise), x.0),
         Rule::PairLambda { premise, x, y } => without(without(env_at(envs, premise), x.0), y.0),
-        Rule::Apply { function: p, argument: q } | Rule::Pair { left: p, right: q } => union(env_at(envs, p), env_at(envs, q)),
+        Rule::Apply {
+            function: p,
+            argument: q,
+        }
+        | Rule::Pair { left: p, right: q } => union(env_at(envs, p), env_at(envs, q)),
     }
 }
 
@@ -234,7 +296,11 @@ pub(crate) struct Checked {
 }
 
 // The rows of the records, or their first fault.
-pub(crate) fn check_rows(heap: Global, types: &[TypeEntry], records: &[Record]) -> Result<Checked, Refusal>
+pub(crate) fn check_rows(
+    heap: Global,
+    types: &[TypeEntry],
+    records: &[Record],
+) -> Result<Checked, Refusal>
     requires { ⌜ length (now records) ≤ 128 ⌝ }
     ensures { λ r. ⌜ Passes (rowsFault (now (types .entry)) (now (records .entry))) r (λ v. Knows (vec-items (v .rows)) (vec-items (v .envs)) (v .taken) (map rowOf (now (records .entry)))) ⌝ }
 {

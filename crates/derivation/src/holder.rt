@@ -59,7 +59,13 @@ pub struct Holder {
 }
 
 // The counts of rows that passed their own checks, or what is wrong with all of them together.
-fn counted(types: &[TypeEntry], sizes: &[Size], rows: &[Row], envs: &[u128], taken: u128) -> Result<Counts, Refusal>
+fn counted(
+    types: &[TypeEntry],
+    sizes: &[Size],
+    rows: &[Row],
+    envs: &[u128],
+    taken: u128,
+) -> Result<Counts, Refusal>
     requires { ⌜ Sound (now types) (now sizes) (now rows) (now envs) taken ⌝ }
     ensures { λ r. ⌜ Cases r (λ n. (wholeFault (now (types .entry)) (now (rows .entry)) ≡ None) × (n .wires ≡ wiresOf (now (types .entry)) (now (rows .entry))) × (n .gates ≡ gateRows (now (rows .entry))) × (n .moves ≡ movesOf (now (types .entry)) (now (rows .entry)))) (λ e. wholeFault (now (types .entry)) (now (rows .entry)) ≡ Some e) ⌝ }
 {
@@ -75,7 +81,9 @@ fn counted(types: &[TypeEntry], sizes: &[Size], rows: &[Row], envs: &[u128], tak
     Ok(Counts {
         wires: wires as u8,
         gates: gate_count(rows),
-        moves: places.saturating_sub(wires).saturating_sub(mate_count(rows)),
+        moves: places
+            .saturating_sub(wires)
+            .saturating_sub(mate_count(rows)),
     })
 }
 
@@ -91,8 +99,18 @@ fn accept(heap: Global, parsed: Parsed) -> Result<Holder, Refusal>
     let sizes = type_sizes(heap, table)?;
     let checked = check_rows(heap, table, records.as_slice())?;
     let Checked { rows, envs, taken } = checked;
-    let counts = counted(table, sizes.as_slice(), rows.as_slice(), envs.as_slice(), taken)?;
-    Ok(Holder { types, rows, counts })
+    let counts = counted(
+        table,
+        sizes.as_slice(),
+        rows.as_slice(),
+        envs.as_slice(),
+        taken,
+    )?;
+    Ok(Holder {
+        types,
+        rows,
+        counts,
+    })
 }
 
 // The holder of the derivation that bytes stand for, or the refusal.

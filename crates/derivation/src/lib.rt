@@ -2,10 +2,11 @@
 mod bytes;
 mod check;
 mod count;
+pub mod examples;
 pub mod gate;
 pub mod holder;
 pub mod refusal;
 pub mod rows;
-pub mod sets;
+mod sets;
 pub mod types;
 mod writer;

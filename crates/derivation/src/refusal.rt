@@ -4,8 +4,8 @@ ghost use Rattle.derivation.specs.Refusals.{layerNumber, numberOf, layerOf, pl
 ghost use Rattle.derivation.specs.declared.refusal.Layer.the-variants.{Bytes};
 ghost use Rattle.derivation.specs.declared.refusal.Refusal.the-variants.{OutOfMemory};
 use crate::rows::RowId;
-use crate::types::TypeId;
 use crate::rows::RowIdPartialEq;
+use crate::types::TypeId;
 use crate::types::TypeIdPartialEq;
 use std::alloc::AllocError;
 use std::alloc::Refused;
@@ -71,7 +71,7 @@ pub enum Refusal {
 }
 
 impl Layer {
-    pub fn number(self) -> u8
+    fn number(self) -> u8
         ensures { λ r. ⌜ r ≡ layerNumber self ⌝ }
     {
         match self {
@@ -153,7 +153,8 @@ impl Refusal {
             | Refusal::RecordLength(n)
             | Refusal::Trailing(n)
             | Refusal::BufferTooShort(n) => n,
-            Refusal::PartNotLower(t) | Refusal::RepeatedType(t) | Refusal::TooManyAtoms(t) => t.0 as usize,
+            Refusal::PartNotLower(t) | Refusal::RepeatedType(t) | Refusal::TooManyAtoms(t) =>
+                t.0 as usize,
             Refusal::NoSuchType(r)
             | Refusal::PremiseNotLower(r)
             | Refusal::PremiseTaken(r)

@@ -3,7 +3,7 @@ ghost use mathlib.Core.Path.{_≡_};
 ghost use Prim.Native.Nat.{_<_, _^_};
 ghost use Rattle.derivation.specs.Sets.{has as member, only as single, union as either, without as removed};
 
-pub fn has(set: u128, x: u8) -> bool
+pub(crate) fn has(set: u128, x: u8) -> bool
     ensures { λ r. ⌜ r ≡ member set x ⌝ }
 {
     x < 128 && (set >> x) & 1 == 1
@@ -26,5 +26,9 @@ pub(crate) fn union(a: u128, b: u128) -> u128
 pub(crate) fn without(set: u128, x: u8) -> u128
     ensures { λ r. ⌜ r ≡ removed set x ⌝ }
 {
-    if x < 128 { set ^ (set & (1u128 << x)) } else { set }
+    if x < 128 {
+        set ^ (set & (1u128 << x))
+    } else {
+        set
+    }
 }

@@ -13,8 +13,8 @@ ghost use Rattle.derivation.specs.Faults.{Checked};
 ghost use Rattle.derivation.specs.Trees.{sameEntry, sameKind, trees, typeFault, typesFault, unfolded};
 ghost use Rattle.derivation.specs.Weights.{joinedSize, sizeOf};
 use crate::refusal::Refusal;
-use std::alloc::Global;
 use crate::refusal::RefusalFromRefused;
+use std::alloc::Global;
 
 // The number of an entry of the type table.
 #[derive(Clone, Copy, PartialEq, Eq)]
@@ -111,7 +111,10 @@ pub(crate) fn type_sizes(heap: Global, types: &[TypeEntry]) -> Result<Vec<Size>,
     ensures { λ r. ⌜ Checked (typesFault (now (types .entry))) r (λ v. vec-items v ≡ map sizeOf (trees (now (types .entry)))) ⌝ }
 {
     let mut sizes = Vec::new(heap);
-    sizes.push(Size { atoms: 1, positive: 1 })?;
+    sizes.push(Size {
+        atoms: 1,
+        positive: 1,
+    })?;
     for (i, entry) in types.iter().enumerate() {
         let size = entry_size(&types[0..i], sizes.as_slice(), *entry)?;
         sizes.push(size)?;

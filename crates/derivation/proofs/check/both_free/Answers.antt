@@ -9,8 +9,8 @@ pub returns-then-has : need.returns-then-has
 returns-then-has c =
     rw (none-in-two (c .args .taken) (c .args .p .0) (c .args .q .0))
     (elim (c .then-has .came) [
-      then-has·by·then-has w ↦ rw (← w .if-has .ensures tt) refl
-    | then-has·by·else-has·then-has-2 w ↦ rw (← w .if-has .ensures tt, ← w .if-has-2 .ensures tt) refl
+      | then-has·by·then-has w ↦ rw (← w .if-has .ensures tt) refl
+      | then-has·by·else-has·then-has-2 w ↦ rw (← w .if-has .ensures tt, ← w .if-has-2 .ensures tt) refl
     ])
 
 pub returns : need.returns

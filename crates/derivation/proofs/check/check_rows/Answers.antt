@@ -47,7 +47,7 @@ with-premises-taken-requires c κs =
     let h = c .in-Continue-row .ensures tt in
     subst⁻¹ (λ (row : Row). allBelow 128 (premises (row .rule)) ≡ true) (h .1)
     (lower-from-none (c .args .types .now) (c .as-slice .result .now) (getD (c .args .records .now) (c .loop-read .read-index) noRecord) (h .0)
-      (omega (arith, ap length (c .as-slice .ensures .value), rows-so-far (c .args .records .now) (c .loop-read .read-index) _ _ _ (c .loop-read .inv .0) (omega arith))))
+    (omega (arith, ap length (c .as-slice .ensures .value), rows-so-far (c .args .records .now) (c .loop-read .read-index) _ _ _ (c .loop-read .inv .0) (omega arith))))
 
 pub loop-read-again : need.loop-read-again
 loop-read-again c =
@@ -58,18 +58,20 @@ loop-read-again c =
     let k = c .loop-read .inv .0 in
     let known = knows-step records i (vec-items (c .loop-read .rows)) (vec-items (c .loop-read .envs)) (c .loop-read .taken) k row (c .loop-read-test .taken) (h .1) in
     let env = c .environment-env .ensures ∙ ap (λ l. environment l row) (c .as-slice-in-loop-read-2 .ensures .value) in
-    let none = subst (λ l. rowFault (c .args .types .now) l (getD records i noRecord) ≡ None) (c .as-slice .ensures .value ∙ k .same) (h .0) in
-    (record {
-       same = c .in-Continue-push-2 .ensures tt .items ∙ known .same;
-       surrounded = c .in-Continue-push .ensures tt .items ∙ ap (λ e. vec-items (c .loop-read .envs) ++ e ∷ []) env ∙ known .surrounded;
-       used = c .with-premises-taken .ensures ∙ known .used;
-     },
-     c .loop-read .inv .1 ∙ first-after (rowFault (c .args .types .now)) rowOf records i noRecord (map rowOf (take i records)) (c .loop-read-test .taken) none
-     ∙ ap (λ l. firstFault (rowFault (c .args .types .now)) rowOf l (drop (i + 1) records)) (sym (map-more rowOf records i noRecord (c .loop-read-test .taken))))
+    let none = subst (λ l. rowFault (c .args .types .now) l (getD records i noRecord) ≡ None) (c .as-slice .ensures .value ∙ k .same) (h .0) in (
+      record {
+        same = c .in-Continue-push-2 .ensures tt .items ∙ known .same;
+        surrounded = c .in-Continue-push .ensures tt .items ∙ ap (λ e. vec-items (c .loop-read .envs) ++ e ∷ []) env ∙ known .surrounded;
+        used = c .with-premises-taken .ensures ∙ known .used;
+      },
+      c .loop-read .inv .1 ∙ first-after (rowFault (c .args .types .now)) rowOf records i noRecord (map rowOf (take i records)) (c .loop-read-test .taken) none
+          ∙ ap (λ l. firstFault (rowFault (c .args .types .now)) rowOf l (drop (i + 1) records)) (sym (map-more rowOf records i noRecord (c .loop-read-test .taken))),
+    )
 
 pub returns : need.returns
 returns c =
     let records = c .args .records .now in
-    let i = c .loop-read .read-index in
-    (c .loop-read .inv .1 ∙ first-end (rowFault (c .args .types .now)) rowOf records i (map rowOf (take i records)) (c .loop-read-test .left),
-     subst (λ l. Knows (vec-items (c .loop-read .rows)) (vec-items (c .loop-read .envs)) (c .loop-read .taken) (map rowOf l)) (take-all i records (c .loop-read-test .left)) (c .loop-read .inv .0))
+    let i = c .loop-read .read-index in (
+      c .loop-read .inv .1 ∙ first-end (rowFault (c .args .types .now)) rowOf records i (map rowOf (take i records)) (c .loop-read-test .left),
+      subst (λ l. Knows (vec-items (c .loop-read .rows)) (vec-items (c .loop-read .envs)) (c .loop-read .taken) (map rowOf l)) (take-all i records (c .loop-read-test .left)) (c .loop-read .inv .0),
+    )

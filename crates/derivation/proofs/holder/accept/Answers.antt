@@ -21,7 +21,7 @@ sound c =
     let h = ap length (c .as-slice-table .ensures .value) in
     let n = ap length (c .as-slice .ensures .value) in
     let x = sound-from (c .as-slice-table .result .now) (c .as-slice .result .now) (vec-items (c .in-Continue-sizes .sizes)) (vec-items (c .in-Continue-checked .checked .rows)) (vec-items (c .in-Continue-checked .checked .envs)) (c .in-Continue-checked .checked .taken)
-              (omega (arith, c .pre .few-types)) (omega (arith, c .pre .some-rows)) (omega (arith, c .pre .few-rows)) (s .0) (k .0) (s .1) (k .1) in
+    (omega (arith, c .pre .few-types)) (omega (arith, c .pre .some-rows)) (omega (arith, c .pre .few-rows)) (s .0) (k .0) (s .1) (k .1) in
     subst₃ (λ (l : List Size) (r : List Row) (e : List ℕ). Sound (c .as-slice-table .result .now) l r e (c .in-Continue-checked .checked .taken))
     (sym (c .as-slice-2 .ensures .value)) (sym (c .as-slice-3 .ensures .value)) (sym (c .as-slice-4 .ensures .value)) x
 
@@ -32,6 +32,7 @@ pub ghost-result : need.ghost-result
 ghost-result c =
     let n = c .in-Continue-counts .ensures tt in
     let t = c .as-slice-table .ensures .value in
-    let r = c .as-slice-3 .ensures .value in
-    (ap₂ valid (sym t) (sym r) ∙ sound-valid (sound (need.at·ghost-result c .After-as-slice-4)) (n .0),
-     (n .1 ∙ ap₂ wires t r, (n .2 ∙ ap gateRows r, (n .3 ∙ ap₂ moves t r, tt))))
+    let r = c .as-slice-3 .ensures .value in (
+      ap₂ valid (sym t) (sym r) ∙ sound-valid (sound (need.at·ghost-result c .After-as-slice-4)) (n .0),
+      (n .1 ∙ ap₂ wires t r, (n .2 ∙ ap gateRows r, (n .3 ∙ ap₂ moves t r, tt))),
+    )

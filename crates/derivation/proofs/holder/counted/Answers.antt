@@ -25,6 +25,6 @@ pub place-count-places-requires : need.place-count-places-requires
 place-count-places-requires c κs = record {
   sized = c .pre .sized;
   accepted = sound-accepted (c .pre) (whole-none (c .args .types .now) (c .args .rows .now)
-    (ap (λ m. lowestMissing m 0 (length (c .args .rows .now) - 1)) (sym (c .pre .used)) ∙ sym (c .in-rest .ensures tt))
-    (subst (λ n. n ≤ 32) (c .wire-count-wires .ensures) (c .if-wires-gt32 .left)));
+      (ap (λ m. lowestMissing m 0 (length (c .args .rows .now) - 1)) (sym (c .pre .used)) ∙ sym (c .in-rest .ensures tt))
+      (subst (λ n. n ≤ 32) (c .wire-count-wires .ensures) (c .if-wires-gt32 .left)));
 }

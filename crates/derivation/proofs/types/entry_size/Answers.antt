@@ -22,7 +22,7 @@ pub returns-then-contains : need.returns-then-contains
 returns-then-contains c =
     let h = c .if-contains .ensures tt .cases in
     repeated (c .args .before .now) (c .args .entry) (omega arith) (omega arith)
-      (listed-true (c .args .before .now) (c .args .entry) (c .args .entry) (h .0) (h .1) (h .2 (c .args .entry)))
+    (listed-true (c .args .before .now) (c .args .entry) (c .args .entry) (h .0) (h .1) (h .2 (c .args .entry)))
     ∙ numbered RepeatedType (length (c .args .before .now))
 
 pub index-sizes-entry : need.index-sizes-entry
@@ -38,11 +38,11 @@ pub returns-in-Some : need.returns-in-Some
 returns-in-Some c =
     let h = c .if-contains .ensures tt .cases in
     entry-fine (c .args .before .now) (c .args .entry) (c .args .sizes .now) _ (c .pre .sized) (omega arith) (omega arith) (c .in-Some .size)
-      (listed-false (c .args .before .now) (c .args .entry) (c .args .entry) (λ k l. h k (c .args .entry) (omega arith) l)) (c .in-Some .ensures tt)
+    (listed-false (c .args .before .now) (c .args .entry) (c .args .entry) (λ k l. h k (c .args .entry) (omega arith) l)) (c .in-Some .ensures tt)
 
 pub returns-in-None : need.returns-in-None
 returns-in-None c =
     let h = c .if-contains .ensures tt .cases in
     entry-wide (c .args .before .now) (c .args .entry) (c .args .sizes .now) _ (c .pre .sized) (omega arith) (omega arith)
-      (listed-false (c .args .before .now) (c .args .entry) (c .args .entry) (λ k l. h k (c .args .entry) (omega arith) l)) (c .in-None .ensures tt)
+    (listed-false (c .args .before .now) (c .args .entry) (c .args .entry) (λ k l. h k (c .args .entry) (omega arith) l)) (c .in-None .ensures tt)
     ∙ numbered TooManyAtoms (length (c .args .before .now))

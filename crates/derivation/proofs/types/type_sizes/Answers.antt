@@ -38,14 +38,16 @@ loop-i-again c =
     let i = c .loop-i .i in
     let h = c .loop-i-test .taken in
     let none = subst (λ (n : ℕ). typeFault (take n es) (getD es i noEntry) ≡ None) (sub-zero i) (e .0) in
-    let size = subst (λ (n : ℕ). c .in-Continue-size .size ≡ sizeOf (unfolded (trees (take n es)) (getD es i noEntry))) (sub-zero i) (e .1) in
-    (omega arith,
-     c .in-Continue-push-2 .ensures tt .items ∙ ap₂ (λ (l : List Size) (s : Size). l ++ (s ∷ [])) (c .loop-i .inv .1) size ∙ sym (sizes-more es i noEntry h),
-     c .loop-i .inv .2 ∙ first-after typeFault (λ x. x) es i noEntry (take i es) h none ∙ ap (λ l. firstFault typeFault (λ x. x) l (drop (i + 1) es)) (sym (take-more es i noEntry h)))
+    let size = subst (λ (n : ℕ). c .in-Continue-size .size ≡ sizeOf (unfolded (trees (take n es)) (getD es i noEntry))) (sub-zero i) (e .1) in (
+      omega arith,
+      c .in-Continue-push-2 .ensures tt .items ∙ ap₂ (λ (l : List Size) (s : Size). l ++ (s ∷ [])) (c .loop-i .inv .1) size ∙ sym (sizes-more es i noEntry h),
+      c .loop-i .inv .2 ∙ first-after typeFault (λ x. x) es i noEntry (take i es) h none ∙ ap (λ l. firstFault typeFault (λ x. x) l (drop (i + 1) es)) (sym (take-more es i noEntry h)),
+    )
 
 pub returns : need.returns
 returns c =
     let es = c .args .types .now in
-    let all = take-all (c .loop-i .i) es (c .loop-i-test .left) in
-    (c .loop-i .inv .2 ∙ first-end typeFault (λ x. x) es (c .loop-i .i) (take (c .loop-i .i) es) (c .loop-i-test .left),
-     c .loop-i .inv .1 ∙ ap (λ l. map sizeOf (trees l)) all)
+    let all = take-all (c .loop-i .i) es (c .loop-i-test .left) in (
+      c .loop-i .inv .2 ∙ first-end typeFault (λ x. x) es (c .loop-i .i) (take (c .loop-i .i) es) (c .loop-i-test .left),
+      c .loop-i .inv .1 ∙ ap (λ l. map sizeOf (trees l)) all,
+    )
