@@ -1,0 +1,7 @@
+pub mod Ports
+pub mod Tokens
+pub mod Steps
+pub mod Runs
+pub mod Gates
+pub mod Laws
+pub mod Examples
