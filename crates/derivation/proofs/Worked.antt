@@ -28,10 +28,14 @@ new-moves : moves [] (zeroRow ∷ []) ≡ 0
 unfolding given places grown trees environments has only union without
 new-moves = refl
 
+new-envs : environments (zeroRow ∷ []) ≡ 0 ∷ []
+unfolding environments grown
+new-envs = refl
+
 -- the same of lists that are known to be these
-pub new-facts : (es : List TypeEntry) (rows : List Row) → es ≡ [] → rows ≡ zeroRow ∷ [] → (valid es rows ≡ true) × (1 ≡ wires es rows) × (0 ≡ gateRows rows) × (0 ≡ moves es rows)
+pub new-facts : (es : List TypeEntry) (rows : List Row) → es ≡ [] → rows ≡ zeroRow ∷ [] → (valid es rows ≡ true) × (1 ≡ wires es rows) × (0 ≡ gateRows rows) × (0 ≡ moves es rows) × (0 ∷ [] ≡ environments rows)
 new-facts es rows te re =
-    (ap₂ valid te re ∙ new-valid, sym (ap₂ wires te re ∙ new-wires), sym (ap gateRows re), sym (ap₂ moves te re ∙ new-moves))
+    (ap₂ valid te re ∙ new-valid, sym (ap₂ wires te re ∙ new-wires), sym (ap gateRows re), sym (ap₂ moves te re ∙ new-moves), sym (ap environments re ∙ new-envs))
 
 -- what the definitions compute to on numerals
 pub examples : Examples

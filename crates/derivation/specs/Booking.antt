@@ -1,4 +1,4 @@
--- What the booking office is told of a derivation, as text.
+-- What is said of a derivation before anything moves, as text.
 use mathlib.Core.List.{List, [], _∷_, _++_, map}
 use Prim.Native.Nat.{ℕ, suc}
 use lib.ListN.{length, replicate}

@@ -12,7 +12,7 @@ ghost use Rattle.derivation.specs.Faults.{Checked as Passes, Gives};
 ghost use Rattle.derivation.specs.Format.{derivationOf};
 ghost use Rattle.derivation.specs.Places.{gateRows, moves as movesOf, wires as wiresOf};
 ghost use Rattle.derivation.specs.Reading.{ReadAnswers, ReadExact};
-ghost use Rattle.derivation.specs.Rows.{rowOf, zeroRow};
+ghost use Rattle.derivation.specs.Rows.{environments, rowOf, zeroRow};
 ghost use Rattle.derivation.specs.Written.{writeAfter, writeAnswer};
 ghost use Rattle.derivation.specs.declared.refusal.Layer.the-variants.{Bytes};
 ghost use Rattle.derivation.specs.declared.refusal.Refusal.the-variants.{OutOfMemory};
@@ -38,7 +38,7 @@ use crate::types::type_sizes;
 use crate::writer::write_derivation;
 use std::alloc::Global;
 
-// What the booking office asks of a derivation.
+// The numbers of a derivation that are known before anything moves.
 #[derive(Clone, Copy)]
 pub(crate) struct Counts {
     pub(crate) wires: u8,
@@ -46,13 +46,15 @@ pub(crate) struct Counts {
     pub(crate) moves: u32,
 }
 
-// A derivation that passed all checks, with its numbers of wires, gate rows and moves.
+// A derivation that passed all checks, with each row's environment and the numbers of wires, gate rows and moves.
 #[derive(Drop)]
 pub struct Holder {
     types: Vec<TypeEntry>,
     rows: Vec<Row>,
+    envs: Vec<u128>,
     counts: Counts,
     ghost accepted: { valid (vec-items types) (vec-items rows) ≡ true },
+    ghost surrounded: { vec-items envs ≡ environments (vec-items rows) },
     ghost wired: { counts .wires ≡ wiresOf (vec-items types) (vec-items rows) },
     ghost gated: { counts .gates ≡ gateRows (vec-items rows) },
     ghost moved: { counts .moves ≡ movesOf (vec-items types) (vec-items rows) },
@@ -109,6 +111,7 @@ fn accept(heap: Global, parsed: Parsed) -> Result<Holder, Refusal>
     Ok(Holder {
         types,
         rows,
+        envs,
         counts,
     })
 }
@@ -121,19 +124,29 @@ fn decoded(heap: Global, bytes: &[u8]) -> Result<Holder, Refusal>
     accept(heap, parsed)
 }
 
+// A qubit in state zero.
+fn zero_row() -> Row
+    ensures { λ r. ⌜ r ≡ zeroRow ⌝ }
+{
+    Row {
+        ty: TypeId(0),
+        rule: Rule::Zero,
+    }
+}
+
 impl Holder {
     // A holder of one zero row.
     pub fn new(heap: Global) -> Result<Holder, Refusal>
         ensures { λ r. ⌜ Cases r (λ h. (vec-items (h .types) ≡ []) × (vec-items (h .rows) ≡ zeroRow ∷ [])) (λ e. e ≡ OutOfMemory Bytes) ⌝ }
     {
         let mut rows = Vec::new(heap);
-        rows.push(Row {
-            ty: TypeId(0),
-            rule: Rule::Zero,
-        })?;
+        rows.push(zero_row())?;
+        let mut envs = Vec::new(heap);
+        envs.push(0)?;
         Ok(Holder {
             types: Vec::new(heap),
             rows,
+            envs,
             counts: Counts {
                 wires: 1,
                 gates: 0,
@@ -159,6 +172,27 @@ impl Holder {
         ensures after { λ _. ⌜ now (buffer .exit) ≡ writeAfter (vec-items (now (self .entry) .types)) (vec-items (now (self .entry) .rows)) (now (buffer .entry)) ⌝ }
     {
         write_derivation(self.types.as_slice(), self.rows.as_slice(), buffer)
+    }
+
+    // The further types, entry 1 first.
+    pub fn types(&self) -> &[TypeEntry]
+        ensures { λ r. ⌜ now r ≡ vec-items (now (self .entry) .types) ⌝ }
+    {
+        self.types.as_slice()
+    }
+
+    // The rows, row 0 first.
+    pub fn rows(&self) -> &[Row]
+        ensures { λ r. ⌜ now r ≡ vec-items (now (self .entry) .rows) ⌝ }
+    {
+        self.rows.as_slice()
+    }
+
+    // The environment of each row, as the set of its variables.
+    pub fn environments(&self) -> &[u128]
+        ensures { λ r. ⌜ now r ≡ environments (vec-items (now (self .entry) .rows)) ⌝ }
+    {
+        self.envs.as_slice()
     }
 
     // The number of wires: negative places of the last row, and zero and one rows.

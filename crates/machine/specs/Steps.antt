@@ -54,8 +54,8 @@ pub data Step (es : List TypeEntry) (rows : List Row) : List Place → ℕ → O
   passes : {tokens : List Place} {w r : ℕ} {p q : Place} → w < length tokens → getD tokens w noPlace ≡ p → Enters es rows r p → Joins es rows r p q ⊎ Joins es rows r q p → Step es rows tokens w None (set tokens w q)
   -- a gate whose seats are all held fires: the tokens of its seats pass together to the results of the same seats
   fires : {tokens after : List Place} {w r : ℕ} {g : GateName} {ws : List ℕ} → w < length tokens → r < length rows → ruleAt rows r ≡ Gate g → length ws ≡ arity g → listed w ws ≡ true →
-    ((i : ℕ) → i < arity g → (getD ws i 0 < length tokens) × (getD tokens (getD ws i 0) noPlace ≡ at r i)) →
-    length after ≡ length tokens →
-    ((i : ℕ) → i < arity g → getD after (getD ws i 0) noPlace ≡ at r (arity g + i)) →
-    ((v : ℕ) → v < length tokens → listed v ws ≡ false → getD after v noPlace ≡ getD tokens v noPlace) →
-    Step es rows tokens w (Some (record { gate = g; wires = ws })) after
+      ((i : ℕ) → i < arity g → (getD ws i 0 < length tokens) × (getD tokens (getD ws i 0) noPlace ≡ at r i)) →
+      length after ≡ length tokens →
+      ((i : ℕ) → i < arity g → getD after (getD ws i 0) noPlace ≡ at r (arity g + i)) →
+      ((v : ℕ) → v < length tokens → listed v ws ≡ false → getD after v noPlace ≡ getD tokens v noPlace) →
+      Step es rows tokens w (Some (record { gate = g; wires = ws })) after

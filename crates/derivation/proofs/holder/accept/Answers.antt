@@ -10,6 +10,7 @@ use Rattle.derivation.specs.declared.types.Size.{Size}
 use Rattle.derivation.specs.declared.rows.Row.{Row}
 use Rattle.derivation.specs.Accepted.{Sound, valid}
 use Rattle.derivation.specs.Places.{wires, gateRows, moves}
+use Rattle.derivation.specs.Rows.{environments}
 use Rattle.derivation.proofs.HolderLaws.{sound-from, sound-valid}
 use Rattle.derivation.proofs.holder.accept.Needs as need
 use Rattle.derivation.proofs.holder.accept.Needs.{After-as-slice-4}
@@ -32,7 +33,8 @@ pub ghost-result : need.ghost-result
 ghost-result c =
     let n = c .in-Continue-counts .ensures tt in
     let t = c .as-slice-table .ensures .value in
-    let r = c .as-slice-3 .ensures .value in (
+    let r = c .as-slice-3 .ensures .value in
+    let k = c .in-Continue-checked .ensures tt .1 in (
       ap₂ valid (sym t) (sym r) ∙ sound-valid (sound (need.at·ghost-result c .After-as-slice-4)) (n .0),
-      (n .1 ∙ ap₂ wires t r, (n .2 ∙ ap gateRows r, (n .3 ∙ ap₂ moves t r, tt))),
+      (k .surrounded ∙ ap environments (sym (k .same)), (n .1 ∙ ap₂ wires t r, (n .2 ∙ ap gateRows r, (n .3 ∙ ap₂ moves t r, tt)))),
     )
