@@ -28,9 +28,9 @@ use Rattle.derivation.specs.Judgements.{Judgement, _⊢_, Apart, ruleAt, treeA
 use Rattle.derivation.specs.Judgements.{Infers, variable, zero-bit, one-bit, gate, abstraction, pair-abstraction, application, pairing}
 use Rattle.derivation.specs.Places.{wires}
 use Rattle.derivation.specs.Accepted.{Table, Accepted, rowsFault, valid}
-use Rattle.derivation.proofs.FaultLaws.{or-else-both, or-else-none, none-from, none-to}
+use Rattle.derivation.proofs.FaultLaws.{cond-none, or-else-both, or-else-none, none-from, none-to}
 use Rattle.derivation.proofs.SetLaws.{has-without}
-use Rattle.derivation.proofs.TreeLaws.{cond-none, Lower, table-from, table-to, tree-zero, tree-node, tree-power, parts, node-tree, power-tree}
+use Rattle.derivation.proofs.TreeLaws.{Lower, table-from, table-to, tree-zero, tree-node, tree-power, parts, node-tree, power-tree}
 use Rattle.derivation.proofs.RowLaws.{premisesAt, Below, Low, below-from, below-to, once-from, unused-none, once-free}
 use Rattle.derivation.proofs.RowLaws.{gathered-take, env-row, binders-low, apart-premises}
 

@@ -1,5 +1,6 @@
 -- Laws of the first fault.
-use mathlib.Core.Path.{_≡_, refl, sym, _∙_, ap, subst}
+use mathlib.Core.Path.{_≡_, refl, sym, _∙_, ap}
+use mathlib.Core.Bool.{Bool, true, false, cond}
 use mathlib.Core.List.{List, [], _∷_, _++_, map, append-assoc, append-nil}
 use Prim.Native.Nat.{ℕ, zero, suc, _+_, _≤_, _<_}
 use native.Mathlib.Omega.{arith}
@@ -14,6 +15,11 @@ or-else-some o p r e = rw e refl
 
 pub or-else-none : {R : Type 0} (o p : Option R) → o ≡ None → orElse o p ≡ p
 or-else-none o p e = rw e refl
+
+-- a check that found nothing: its test failed, and what follows found nothing
+pub cond-none : {R : Type 0} (b : Bool) (r : R) (o : Option R) → cond b (Some r) o ≡ None → (b ≡ false) × (o ≡ None)
+cond-none true r o e = let z : _≡_ {A = ℕ} 0 1 = cc in absurd (omega arith)
+cond-none false r o e = (refl, e)
 
 -- both parts of a check that found nothing
 pub or-else-both : {R : Type 0} (o p : Option R) → orElse o p ≡ None → (o ≡ None) × (p ≡ None)

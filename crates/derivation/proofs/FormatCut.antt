@@ -16,11 +16,7 @@ use Rattle.std.proofs.shelf.Lists.{take-append-drop, drop-at, length-append}
 use Rattle.std.proofs.shelf.Tests.{or-parts, or-from, ltb-false, le-ltb, eqb-true, eqb-false, eq-eqb, ne-eqb, cond-true, cond-false}
 use Rattle.derivation.specs.declared.refusal.Refusal.{Refusal}
 use Rattle.derivation.specs.Format.{unless, andThen, recordFault, Cut, prepend, cut}
-
--- a check that found nothing: the test failed, and what follows found nothing
-pub cond-some-none : {R : Type 0} (b : Bool) (r : R) (o : Option R) → cond b (Some r) o ≡ None → (b ≡ false) × (o ≡ None)
-cond-some-none true r o e = let z : _≡_ {A = ℕ} 0 1 = cc in absurd (omega arith)
-cond-some-none false r o e = (refl, e)
+use Rattle.derivation.proofs.FaultLaws.{cond-none}
 
 -- a check that passes only if its test does
 pub cond-none-some : {R : Type 0} (b : Bool) (r : R) → cond b None (Some r) ≡ None → b ≡ true
@@ -70,8 +66,8 @@ pub framed-from-none : (lengthOf : ℕ → ℕ) (total : ℕ) (left : List ℕ) 
 framed-from-none lengthOf total left e =
     let n = getD left 0 0 in
     let m = lengthOf (getD left 1 0) in
-    let p = cond-some-none (eqb n 0 || ltb (length left) (1 + n)) _ _ e in
-    let q = cond-some-none (eqb m 0) _ _ (p .1) in
+    let p = cond-none (eqb n 0 || ltb (length left) (1 + n)) _ _ e in
+    let q = cond-none (eqb m 0) _ _ (p .1) in
     let bounds = or-parts (eqb n 0) (ltb (length left) (1 + n)) (p .0) in
     let some = eqb-false n 0 (bounds .0) in
     let within = ltb-false (length left) (1 + n) (bounds .1) in

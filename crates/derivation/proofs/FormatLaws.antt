@@ -23,8 +23,8 @@ use Rattle.derivation.specs.Trees.{typesFault}
 use Rattle.derivation.specs.Rows.{rowOf, recordOf}
 use Rattle.derivation.specs.Accepted.{Derivation, rowsFault, fault, valid}
 use Rattle.derivation.specs.Format.{Cut, andThen, unless, Parsed, cut, trailingFault, headerFault, typeBytes, rowBytes, ruleBytes, recordBytes, encode, typeLength, rowLength, frontType, frontRow, parse, derivationOf}
-use Rattle.derivation.proofs.FaultLaws.{or-else-both}
-use Rattle.derivation.proofs.FormatCut.{take-firsts, unless-ok, and-then-ok, ok-same, cond-some-none, cut-length, cut-sound, cut-complete}
+use Rattle.derivation.proofs.FaultLaws.{cond-none, or-else-both}
+use Rattle.derivation.proofs.FormatCut.{take-firsts, unless-ok, and-then-ok, ok-same, cut-length, cut-sound, cut-complete}
 use Rattle.derivation.proofs.FormatRecords.{types-exact, rows-exact, rows-known, rows-again}
 
 -- the header
@@ -41,11 +41,11 @@ pub record Header (bytes : List ℕ) : Type 0 where
 -- a header says so exactly if it has no fault
 pub header-from-none : (bytes : List ℕ) → headerFault bytes ≡ None → Header bytes
 header-from-none bytes e =
-    let a = cond-some-none (ltb (length bytes) 5) _ _ e in
-    let b = cond-some-none (not (eqb (getD bytes 0 0) 1)) _ _ (a .1) in
-    let c = cond-some-none (not (eqb (getD bytes 1 0 * 256 + getD bytes 2 0) (length bytes))) _ _ (b .1) in
-    let d = cond-some-none (ltb 64 (getD bytes 3 0)) _ _ (c .1) in
-    let f = cond-some-none (eqb (getD bytes 4 0) 0 || ltb 128 (getD bytes 4 0)) _ _ (d .1) in
+    let a = cond-none (ltb (length bytes) 5) _ _ e in
+    let b = cond-none (not (eqb (getD bytes 0 0) 1)) _ _ (a .1) in
+    let c = cond-none (not (eqb (getD bytes 1 0 * 256 + getD bytes 2 0) (length bytes))) _ _ (b .1) in
+    let d = cond-none (ltb 64 (getD bytes 3 0)) _ _ (c .1) in
+    let f = cond-none (eqb (getD bytes 4 0) 0 || ltb 128 (getD bytes 4 0)) _ _ (d .1) in
     let g = or-parts (eqb (getD bytes 4 0) 0) (ltb 128 (getD bytes 4 0)) (f .0) in
     let some = eqb-false (getD bytes 4 0) 0 (g .0) in
     record {

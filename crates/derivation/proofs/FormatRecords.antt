@@ -22,8 +22,8 @@ use Rattle.derivation.specs.Gates.{code, gateOf}
 use Rattle.derivation.specs.Rows.{rowOf, recordOf, ruleOr, knownFault, rowFault}
 use Rattle.derivation.specs.Format.{gateRule, kindCode, typeBytes, rowBytes, ruleBytes, typeLength, rowLength, frontType, frontRow, typeKind, ruleOf}
 use Rattle.derivation.specs.Faults.{firstFault}
-use Rattle.derivation.proofs.FaultLaws.{or-else-both}
-use Rattle.derivation.proofs.FormatCut.{take-firsts, Framed, Written, written-from, Exact, cond-some-none}
+use Rattle.derivation.proofs.FaultLaws.{cond-none, or-else-both}
+use Rattle.derivation.proofs.FormatCut.{take-firsts, Framed, Written, written-from, Exact}
 
 -- a number above k is not k
 above : (k n : ℕ) → k < n → eqb n k ≡ false
@@ -163,7 +163,7 @@ unfolding firstFault
 rows-known es done [] e = refl
 rows-known es done (r ∷ rs) e =
     let p = or-else-both (rowFault es done r) _ e in
-    let q = cond-some-none (ltb (length es) (r .ty .0)) _ _ (p .0) in
+    let q = cond-none (ltb (length es) (r .ty .0)) _ _ (p .0) in
     ap₂ (λ o l. record { ty = r .ty; rule = o } ∷ l)
     (known-from es done (r .ty .0) (r .rule) (q .1))
     (rows-known es (done ++ (rowOf r ∷ [])) rs (p .1))

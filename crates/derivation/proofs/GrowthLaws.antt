@@ -1,11 +1,11 @@
 -- Laws of lists that are made from their own front.
-use mathlib.Core.Path.{_≡_, refl, sym, _∙_, ap, subst}
-use mathlib.Core.List.{List, [], _∷_, _++_, append-assoc, append-nil}
+use mathlib.Core.Path.{_≡_, refl, sym, _∙_, ap}
+use mathlib.Core.List.{List, [], _∷_, _++_}
 use Prim.Native.Nat.{ℕ, zero, suc, _+_, _≤_, _<_}
-use native.Mathlib.Nat.{add-zero, zero-add, add-assoc, add-suc, suc-add}
+use native.Mathlib.Nat.{add-zero}
 use native.Mathlib.Omega.{arith}
-use lib.ListN.{length, getD, take, drop, length-append}
-use Rattle.std.proofs.shelf.Lists.{getD-append-left, getD-at, take-more, take-all}
+use lib.ListN.{length, getD, take, length-append}
+use Rattle.std.proofs.shelf.Lists.{getD-append-left, getD-at}
 use Rattle.derivation.specs.Growth.{grown}
 
 module _ {A B : Type 0} (f : List B → A → B) where

@@ -20,8 +20,7 @@ use Rattle.derivation.specs.Places.{wires}
 use Rattle.derivation.specs.declared.refusal.Refusal.the-variants.{TooManyWires}
 use Rattle.derivation.specs.Trees.{atoms, tree, trees, typesFault}
 use Rattle.derivation.proofs.AcceptedLaws.{accepted-from-valid}
-use Rattle.derivation.proofs.FaultLaws.{none-from, or-else-none}
-use Rattle.derivation.proofs.FormatCut.{cond-some-none}
+use Rattle.derivation.proofs.FaultLaws.{cond-none, none-from, or-else-none}
 use Rattle.derivation.proofs.FormatLaws.{valid-from}
 use Rattle.derivation.proofs.FormatRecords.{rows-again, rows-known}
 use Rattle.derivation.proofs.TreeLaws.{table-from}
@@ -33,7 +32,7 @@ module _ {es : List TypeEntry} {sizes : List Size} {rows : List Row} {envs : Lis
       let at = none-from (rowFault es) rowOf [] (map recordOf rows) (recordOf noRow) (s .rows-pass) r (subst (λ n. r < n) (sym (length-map rows recordOf)) h) in
       let here = getD-map recordOf rows r noRow (recordOf noRow) h in
       let fault = subst (λ (q : Record). rowFault es (map rowOf (take r (map recordOf rows))) q ≡ None) here at in
-      ltb-false (length es) (typeAt rows r) (cond-some-none _ _ _ fault .0)
+      ltb-false (length es) (typeAt rows r) (cond-none _ _ _ fault .0)
 
   pub sound-small : (t : ℕ) → t ≤ length es → atoms (tree es t) ≤ 16
   sound-small = table-from es (s .few-types) (s .types-pass) .small

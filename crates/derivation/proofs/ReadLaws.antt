@@ -1,6 +1,6 @@
 -- Reading accepts exactly the encodings of derivations that keep the rules.
-use mathlib.Core.Path.{_≡_, refl, sym, _∙_, ap, ap₂, subst, subst₂}
-use mathlib.Core.Logic.{_⊎_, inl, inr, ⊎-elim}
+use mathlib.Core.Path.{_≡_, refl, sym, _∙_, ap, ap₂, subst₂}
+use mathlib.Core.Logic.{inl, inr, ⊎-elim}
 use mathlib.Core.List.{List, map}
 use Prim.Native.Nat.{ℕ, _<_}
 use native.Mathlib.Omega.{arith}
@@ -10,9 +10,7 @@ use Rattle.std.specs.declared.result.Result.{Result}
 use Rattle.std.specs.declared.result.Result.the-variants.{Ok, Err}
 use Rattle.derivation.specs.declared.types.TypeEntry.{TypeEntry}
 use Rattle.derivation.specs.declared.rows.Row.{Row}
-use Rattle.derivation.specs.declared.refusal.Layer.the-variants.{Bytes}
 use Rattle.derivation.specs.declared.refusal.Refusal.{Refusal}
-use Rattle.derivation.specs.declared.refusal.Refusal.the-variants.{OutOfMemory}
 use Rattle.derivation.specs.Accepted.{Accepted, Derivation, fault}
 use Rattle.derivation.specs.Format.{encode, parse, derivationOf, Parsed}
 use Rattle.derivation.specs.Rows.{rowOf}

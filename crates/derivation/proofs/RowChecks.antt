@@ -2,7 +2,7 @@
 use mathlib.Core.Path.{_≡_, refl, sym, _∙_, ap, subst}
 use mathlib.Core.Bool.{Bool, true, false, not, cond, _&&_, _||_}
 use mathlib.Core.List.{List, [], _∷_, _++_, map}
-use mathlib.Core.Logic.{_⊎_, inl, inr, ⊎-elim}
+use mathlib.Core.Logic.{_⊎_, inl, inr}
 use Prim.Native.Nat.{ℕ, zero, suc, _+_, _-_, _≤_, _<_}
 use native.Mathlib.Numerals.{add-one}
 use native.Mathlib.Omega.{arith}
@@ -12,7 +12,7 @@ use lib.ListN.{length, getD, take}
 use Rattle.std.specs.declared.option.Option.{Option}
 use Rattle.std.specs.declared.option.Option.the-variants.{Some, None}
 use Rattle.std.proofs.shelf.Lists.{getD-past, length-map, length-take-le, map-more}
-use Rattle.std.proofs.shelf.Tests.{le-ltb, eq-eqb, ne-eqb, cases-eq, and-parts, and-from, ltb-true, lt-ltb, not-false, cond-true, cond-false}
+use Rattle.std.proofs.shelf.Tests.{le-ltb, and-parts, and-from, ltb-true, lt-ltb, not-false, cond-true, cond-false}
 use Rattle.derivation.specs.declared.types.TypeEntry.{TypeEntry}
 use Rattle.derivation.specs.declared.types.TypeKind.the-variants.{Pair as PairKind}
 use Rattle.derivation.specs.declared.rows.RowId.{RowId}
@@ -25,6 +25,7 @@ use Rattle.derivation.specs.Sets.{has, only, union, without}
 use Rattle.derivation.specs.Trees.{noEntry}
 use Rattle.derivation.specs.Growth.{grown}
 use Rattle.derivation.specs.Rows.{premises, binders, introduced, gathered, less, environment, environments, lowestMissing, taken, takenFrom, including, allBelow, knownFault, ruleOr, rowOf, Knows, noneIn, bindsFree, entryAt, isPower, isNode, rightPart, ruleFault, rowFault}
+use Rattle.derivation.proofs.FaultLaws.{cond-none}
 use Rattle.derivation.proofs.GrowthLaws.{grown-push, length-grown}
 use Rattle.derivation.proofs.SetLaws.{has-union, has-only, union-none}
 
@@ -82,9 +83,6 @@ module _ (envs : List ℕ) (row : Row) where
 pub row-fault-of : (es : List TypeEntry) (done : List Row) (r : Record) (rule : Rule) → r .ty .0 ≤ length es → r .rule ≡ Some rule → rowFault es done r ≡ ruleFault es done (r .ty .0) rule
 row-fault-of es done r rule h e = rw (le-ltb (length es) (r .ty .0) h, e) refl
 
-pub eqb-swap : (p q : ℕ) → eqb p q ≡ eqb q p
-eqb-swap p q = ⊎-elim (λ e. eq-eqb p q e ∙ sym (eq-eqb q p (sym e))) (λ ne. ne-eqb p q ne ∙ sym (ne-eqb q p (λ e. ne (sym e)))) (cases-eq p q)
-
 pub knows-none : Knows [] [] 0 []
 unfolding environments taken grown
 knows-none = record { same = refl; surrounded = refl; used = refl }
@@ -112,11 +110,6 @@ all-below-more j k (p ∷ ps) h e =
     let b = and-parts (ltb p j) (allBelow j ps) e in
     let low = ltb-true p j (b .0) in
     and-from (ltb p k) (allBelow k ps) (lt-ltb p k (omega arith)) (all-below-more j k ps h (b .1))
-
--- a test that found nothing
-cond-none : {A : Type 0} (b : Bool) (e : A) (o : Option A) → cond b (Some e) o ≡ None → (b ≡ false) × (o ≡ None)
-cond-none true e o h = let z : _≡_ {A = ℕ} 0 1 = cc in absurd (omega arith)
-cond-none false e o h = (refl, h)
 
 known-lower : (es : List TypeEntry) (done : List Row) (t : ℕ) (o : Option Rule) → knownFault es done t o ≡ None → allBelow (length done) (premises (ruleOr o)) ≡ true
 known-lower es done t None e = let z : _≡_ {A = ℕ} 0 1 = cc in absurd (omega arith)

@@ -14,7 +14,7 @@ use Rattle.std.specs.declared.option.Option.{Option}
 use Rattle.std.specs.declared.option.Option.the-variants.{Some, None}
 use Rattle.std.proofs.shelf.Lists.{length-take-le, take-all}
 use Rattle.std.proofs.shelf.Tests.{and-parts, and-from, or-cases, not-true, not-from-false, both-ways, cond-true}
-use Rattle.std.proofs.shelf.Tests.{cases-bool, cases-lt, cases-eq, eqb-true, eqb-false, eq-eqb, ne-eqb, ltb-true, lt-ltb}
+use Rattle.std.proofs.shelf.Tests.{cases-lt, cases-eq, eqb-true, eq-eqb, ne-eqb, ltb-true, lt-ltb}
 use Rattle.derivation.specs.declared.rows.Rule.{Rule}
 use Rattle.derivation.specs.declared.rows.Rule.the-variants.{Variable, Zero, One, Gate, Lambda, PairLambda, Apply, Pair}
 use Rattle.derivation.specs.declared.rows.Row.{Row}
@@ -23,7 +23,7 @@ use Rattle.derivation.specs.Rows.{premises, binders, introduced, gathered, les
 use Rattle.derivation.specs.Rows.{allBelow, noneIn, allIn, noRow, lowestMissing, unusedFault}
 use Rattle.derivation.specs.Judgements.{Apart, ruleAt, envAt}
 use Rattle.derivation.specs.Accepted.{occurrences, uses}
-use Rattle.derivation.proofs.SetLaws.{has-none, has-only, has-union, has-without}
+use Rattle.derivation.proofs.SetLaws.{eqb-swap, has-none, has-only, has-union, has-without}
 use Rattle.derivation.proofs.GrowthLaws.{length-grown, getD-grown, getD-grown-take}
 use Rattle.derivation.proofs.TreeLaws.{not-so}
 
@@ -57,10 +57,6 @@ below-to k [] h = refl
 below-to k (p ∷ ps) h = and-from (ltb p k) _ (lt-ltb p k (h 0 (omega arith))) (below-to k ps (λ i l. h (suc i) (omega arith)))
 
 -- tests
-
-eqb-swap : (x y : ℕ) → eqb x y ≡ eqb y x
-eqb-swap x y =
-    ⊎-elim (λ e. e ∙ sym (eq-eqb y x (sym (eqb-true x y e)))) (λ e. e ∙ sym (ne-eqb y x (λ q. eqb-false x y e (sym q)))) (cases-bool (eqb x y))
 
 or-false : (b : Bool) → b ≡ (b || false)
 or-false true = refl

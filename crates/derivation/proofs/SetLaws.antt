@@ -1,6 +1,6 @@
 -- Laws of sets as masks.
 use mathlib.Core.Path.{_≡_, refl, sym, _∙_, ap}
-use mathlib.Core.Bool.{Bool, true, false, not, _&&_, _||_}
+use mathlib.Core.Bool.{false, not, _&&_, _||_}
 use mathlib.Core.Logic.{⊎-elim}
 use Prim.Native.Nat.{ℕ, zero, suc, _+_, _-_, _/_, _%_, _^_, _<_, _≤_}
 use native.Mathlib.Nat.{one-mul, mul-mod-left, div-eq-of-lt, zero-div, lt-of-lt-of-le}
@@ -9,7 +9,7 @@ use lib.Dec.{eqb}
 use lib.Pow.{pow-mono}
 use lib.Bits.{bitAnd, bitOr, bitXor, and-comm, and-shifted, xor-zero-r, or-shr, or-mod, and-shr, and-mod, xor-shr, xor-mod}
 use Rattle.std.proofs.shelf.Bits.{pow-add, pow-below, shl-shr, mod-below}
-use Rattle.std.proofs.shelf.Tests.{cases-order, eq-eqb, ne-eqb}
+use Rattle.std.proofs.shelf.Tests.{cases-order, cases-eq, eq-eqb, ne-eqb}
 use Rattle.derivation.specs.Sets.{has, only, union, without}
 
 -- bit x of a mask
@@ -96,3 +96,7 @@ without-past m x h l =
 pub union-none : (m : ℕ) → union 0 m ≡ m
 unfolding union
 union-none m = refl
+
+-- a test of equality does not mind the order
+pub eqb-swap : (p q : ℕ) → eqb p q ≡ eqb q p
+eqb-swap p q = ⊎-elim (λ e. eq-eqb p q e ∙ sym (eq-eqb q p (sym e))) (λ ne. ne-eqb p q ne ∙ sym (ne-eqb q p (λ e. ne (sym e)))) (cases-eq p q)

@@ -1,35 +1,30 @@
 -- Laws of types as trees and of the type table: a table without a fault keeps its rules, and the tests of an entry say what its tree is.
 use mathlib.Core.Path.{_≡_, refl, sym, _∙_, ap, subst}
-use mathlib.Core.Bool.{Bool, true, false, cond}
+use mathlib.Core.Bool.{Bool, true, false}
 use mathlib.Core.Logic.{⊎-elim}
 use mathlib.Core.List.{List, [], _∷_}
 use Prim.Native.Nat.{ℕ, zero, suc, _+_, _≤_, _<_}
 use native.Mathlib.Omega.{arith}
 use lib.Dec.{eqb, ltb, leb}
 use lib.ListN.{length, getD, take}
-use Rattle.std.specs.declared.option.Option.{Option}
-use Rattle.std.specs.declared.option.Option.the-variants.{Some, None}
+use Rattle.std.specs.declared.option.Option.the-variants.{None}
 use Rattle.std.proofs.shelf.Lists.{length-take-le, getD-take, map-id}
 use Rattle.std.proofs.shelf.Tests.{and-parts, and-from, or-parts, or-from, both-ways, cond-false, cases-order}
 use Rattle.std.proofs.shelf.Tests.{eqb-true, eq-eqb, leb-false, lt-leb, ltb-true, ltb-false, lt-ltb, le-ltb}
 use Rattle.derivation.specs.declared.types.TypeKind.{TypeKind}
 use Rattle.derivation.specs.declared.types.TypeKind.the-variants.{Arrow, Pair}
 use Rattle.derivation.specs.declared.types.TypeEntry.{TypeEntry}
-use Rattle.derivation.specs.Trees.{Tree, qubit, atoms, power, node, unfolded, trees, tree, sameKind, sameEntry, listed, typeFault, typesFault}
+use Rattle.derivation.specs.Trees.{Tree, qubit, atoms, power, node, unfolded, trees, tree, sameKind, sameEntry, noEntry, listed, typeFault, typesFault}
 use Rattle.derivation.specs.Rows.{isNode, leftPart, rightPart, isPower}
 use Rattle.derivation.specs.Accepted.{Table}
 use Rattle.derivation.proofs.GrowthLaws.{getD-grown-front, getD-grown, getD-grown-take}
-use Rattle.derivation.proofs.FaultLaws.{none-from, none-to}
+use Rattle.derivation.proofs.FaultLaws.{cond-none, none-from, none-to}
+use Rattle.derivation.proofs.TypeChecks.{listed-false}
 
 -- a test that cannot pass fails
 pub not-so : (b : Bool) → (b ≡ true → ⊥) → b ≡ false
 not-so true h = absurd (h refl)
 not-so false h = refl
-
--- a check that found nothing did not find its own fault, and the checks behind it found none
-pub cond-none : {R : Type 0} (b : Bool) (r : R) (o : Option R) → cond b (Some r) o ≡ None → (b ≡ false) × (o ≡ None)
-cond-none true r o e = let z : _≡_ {A = ℕ} 0 1 = cc in absurd (omega arith)
-cond-none false r o e = (refl, e)
 
 -- nodes
 
@@ -47,10 +42,7 @@ node-parts Pair Pair a b c d e = (refl, cc, cc)
 
 -- entries
 
--- the entry that a table has behind its last, and entry t of the further types
-abbrev noEntry : TypeEntry
-noEntry = record { kind = Arrow; left = record { 0 = 0 }; right = record { 0 = 0 } }
-
+-- entry t of the further types
 abbrev entry : List TypeEntry → ℕ → TypeEntry
 entry es t = getD es t noEntry
 
@@ -80,10 +72,6 @@ none-listed : (ds : List TypeEntry) (e d : TypeEntry) → listed ds e ≡ false 
 none-listed [] e d h s l = absurd (omega arith)
 none-listed (c ∷ ds) e d h zero l = or-parts (sameEntry c e) (listed ds e) h .0
 none-listed (c ∷ ds) e d h (suc s) l = none-listed ds e d (or-parts (sameEntry c e) (listed ds e) h .1) s (omega arith)
-
-listed-none : (ds : List TypeEntry) (e d : TypeEntry) → ((s : ℕ) → s < length ds → sameEntry (getD ds s d) e ≡ false) → listed ds e ≡ false
-listed-none [] e d h = refl
-listed-none (c ∷ ds) e d h = or-from (sameEntry c e) (listed ds e) (h 0 (omega arith)) (listed-none ds e d (λ s l. h (suc s) (omega arith)))
 
 -- the parts of each entry are lower
 abbrev pub Lower : List TypeEntry → Type 0
@@ -142,8 +130,8 @@ module _ (es : List TypeEntry) where
   fresh-to : Fresh es → (t : ℕ) → t < length es → listed (take t es) (entry es t) ≡ false
   fresh-to f t h =
       let n = length-take-le t es (omega arith) in
-      listed-none (take t es) (entry es t) noEntry
-      (λ s l. ap (λ d. sameEntry d (entry es t)) (getD-take t es s noEntry (omega arith)) ∙ not-so _ (f s t (omega arith) h))
+      listed-false (take t es) (entry es t) noEntry
+      (λ s l. sym (ap (λ d. sameEntry d (entry es t)) (getD-take t es s noEntry (omega arith)) ∙ not-so _ (f s t (omega arith) h)))
 
   -- no entry stands in a table twice exactly if no two have one tree
   distinct-below : Lower es → Fresh es → (n s t : ℕ) → s < n → t < n → s ≤ length es → t ≤ length es → tree es s ≡ tree es t → s ≡ t

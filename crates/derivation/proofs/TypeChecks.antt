@@ -1,10 +1,10 @@
 -- What the code learns of a type table while it checks one entry.
 use mathlib.Core.Path.{_≡_, refl, sym, _∙_, ap, ap₂, subst, subst⁻¹}
-use mathlib.Core.Bool.{Bool, true, false, not, cond, _||_, _&&_}
+use mathlib.Core.Bool.{Bool, true, false, cond}
 use mathlib.Core.List.{List, [], _∷_, _++_, map}
 use Prim.Native.Nat.{ℕ, zero, suc, _+_, _≤_, _<_}
 use native.Mathlib.Omega.{arith}
-use lib.Dec.{ltb, leb}
+use lib.Dec.{ltb}
 use lib.ListN.{length, getD, take}
 use Rattle.std.specs.declared.option.Option.{Option}
 use Rattle.std.specs.declared.option.Option.the-variants.{Some, None}
@@ -14,7 +14,6 @@ use Rattle.derivation.specs.declared.types.TypeKind.{TypeKind}
 use Rattle.derivation.specs.declared.types.TypeKind.the-variants.{Arrow, Pair}
 use Rattle.derivation.specs.declared.types.TypeEntry.{TypeEntry}
 use Rattle.derivation.specs.declared.types.Size.{Size}
-use Rattle.derivation.specs.declared.refusal.Refusal.{Refusal}
 use Rattle.derivation.specs.declared.refusal.Refusal.the-variants.{RepeatedType, TooManyAtoms}
 use Rattle.derivation.specs.Trees.{Tree, qubit, node, atoms, trees, unfolded, sameEntry, listed, typeFault}
 use Rattle.derivation.specs.Weights.{sizeOf, joinedSize}

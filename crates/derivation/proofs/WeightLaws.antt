@@ -99,11 +99,6 @@ weight-union a b (suc n) f h = rw (has-union a b n, weight-union a b n f h) (go 
     go false true p q = omega arith
     go false false p q = omega arith
 
--- the empty set adds nothing to another
-pub union-none : (m : ℕ) → union 0 m ≡ m
-unfolding union
-union-none m = refl
-
 -- the step of a row: what it has and binds is what it introduces and what its premises have
 pub weight-infers : {of : ℕ → Tree} {k : ℕ} {rule : Rule} {js : List Judgement} {j : Judgement} → Infers of k rule js j
     → (f : ℕ → ℕ) (n : ℕ) → allBelow n (binders rule) ≡ true

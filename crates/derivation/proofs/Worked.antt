@@ -2,7 +2,6 @@
 use mathlib.Core.Path.{_≡_, refl, sym, _∙_, ap, ap₂}
 use mathlib.Core.Bool.{true}
 use mathlib.Core.List.{List, [], _∷_}
-use Prim.Native.Nat.{ℕ}
 use Rattle.derivation.specs.declared.types.TypeEntry.{TypeEntry}
 use Rattle.derivation.specs.declared.rows.Row.{Row}
 use Rattle.derivation.specs.Sets.{has, only, union, without}

@@ -1,5 +1,5 @@
 -- What is said of a derivation before anything moves, as text.
-use mathlib.Core.List.{List, [], _∷_, _++_, map}
+use mathlib.Core.List.{List, [], _∷_, _++_}
 use Prim.Native.Nat.{ℕ, suc}
 use lib.ListN.{length, replicate}
 use lib.Chars.{codes}

@@ -9,36 +9,31 @@ use Rattle.std.specs.declared.option.Option.the-variants.{Some, None}
 use Rattle.derivation.specs.declared.gate.Gate.{Gate}
 use Rattle.derivation.specs.declared.gate.Gate.the-variants.{H, S, T, X, Z, Cx, Cz, Ccx}
 
+-- what is known of a gate
+pub record Facts : Type 0 where
+  pub code : ℕ
+  pub word : List ℕ
+  pub arity : ℕ
+
+abbrev pub facts : Gate → Facts
+facts H = record { code = 1; word = codes "h"; arity = 1 }
+facts S = record { code = 2; word = codes "s"; arity = 1 }
+facts T = record { code = 3; word = codes "t"; arity = 1 }
+facts X = record { code = 4; word = codes "x"; arity = 1 }
+facts Z = record { code = 5; word = codes "z"; arity = 1 }
+facts Cx = record { code = 6; word = codes "cx"; arity = 2 }
+facts Cz = record { code = 7; word = codes "cz"; arity = 2 }
+facts Ccx = record { code = 8; word = codes "ccx"; arity = 3 }
+
 abbrev pub code : Gate → ℕ
-code H = 1
-code S = 2
-code T = 3
-code X = 4
-code Z = 5
-code Cx = 6
-code Cz = 7
-code Ccx = 8
+code g = facts g .code
+
+abbrev pub word : Gate → List ℕ
+word g = facts g .word
 
 -- how many wires the gate acts on
 abbrev pub arity : Gate → ℕ
-arity H = 1
-arity S = 1
-arity T = 1
-arity X = 1
-arity Z = 1
-arity Cx = 2
-arity Cz = 2
-arity Ccx = 3
-
-abbrev pub word : Gate → List ℕ
-word H = codes "h"
-word S = codes "s"
-word T = codes "t"
-word X = codes "x"
-word Z = codes "z"
-word Cx = codes "cx"
-word Cz = codes "cz"
-word Ccx = codes "ccx"
+arity g = facts g .arity
 
 -- the gate of a code, if there is one
 abbrev pub gateOf : ℕ → Option Gate

@@ -2,7 +2,7 @@
 use mathlib.Core.Bool.{Bool, true, false, not, cond}
 use mathlib.Core.List.{List, [], _∷_, _++_, map}
 use Prim.Native.Nat.{ℕ, zero, suc, _+_, _-_}
-use lib.ListN.{length, getD}
+use lib.ListN.{length}
 use Rattle.std.specs.Joined.{joined}
 use Rattle.derivation.specs.declared.types.TypeEntry.{TypeEntry}
 use Rattle.derivation.specs.declared.rows.Rule.{Rule}

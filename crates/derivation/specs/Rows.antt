@@ -1,7 +1,7 @@
 -- What the rows of a derivation stand on, and the checks of each row.
 use mathlib.Core.Path.{_≡_}
-use mathlib.Core.Bool.{Bool, true, false, not, cond, _||_, _&&_}
-use mathlib.Core.List.{List, [], _∷_, map}
+use mathlib.Core.Bool.{Bool, true, false, not, cond, _&&_}
+use mathlib.Core.List.{List, [], _∷_}
 use Prim.Native.Nat.{ℕ, zero, suc, _-_}
 use lib.Dec.{eqb, ltb}
 use lib.ListN.{length, getD}
@@ -18,7 +18,6 @@ use Rattle.derivation.specs.declared.refusal.Refusal.{Refusal}
 use Rattle.derivation.specs.declared.refusal.Refusal.the-variants.{NoSuchType, PremiseNotLower, PremiseTaken, NotFree, TypeMismatch, NoSuchGate, UnusedRow}
 use Rattle.derivation.specs.Sets.{has, only, union, without}
 use Rattle.derivation.specs.Growth.{grown}
-use Rattle.derivation.specs.Faults.{orElse, firstFault}
 use Rattle.derivation.specs.Gates.{arity}
 use Rattle.derivation.specs.Trees.{sameEntry, noEntry}
 

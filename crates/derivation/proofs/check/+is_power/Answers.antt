@@ -1,8 +1,6 @@
 -- From two qubits on: a pair of a qubit and one fewer.
 use mathlib.Core.Path.{refl, ap}
-use mathlib.Core.Bool.{_&&_}
 use Rattle.derivation.specs.declared.types.TypeEntry.{TypeEntry}
-use Rattle.derivation.specs.Rows.{isNode, isPower}
 use Rattle.derivation.proofs.RowChecks.{power-step}
 use Rattle.derivation.proofs.check.+is_power.Needs as need
 

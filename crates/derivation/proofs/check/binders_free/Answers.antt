@@ -1,7 +1,5 @@
 -- The environment of the premise has what the rule binds.
 use mathlib.Core.Path.{sym, _∙_, ap}
-use mathlib.Core.Bool.{_&&_, true, false}
-use lib.ListN.{getD}
 use Rattle.derivation.specs.Sets.{has, without}
 use Rattle.derivation.specs.Rows.{bindsFree}
 use Rattle.derivation.proofs.RowChecks.{binds-one, binds-two}

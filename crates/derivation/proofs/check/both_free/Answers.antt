@@ -1,7 +1,8 @@
 -- Two premises are free if neither is taken and they differ.
 use mathlib.Core.Path.{refl, ap}
 use mathlib.Core.Bool.{not}
-use Rattle.derivation.proofs.RowChecks.{none-in-two, eqb-swap}
+use Rattle.derivation.proofs.RowChecks.{none-in-two}
+use Rattle.derivation.proofs.SetLaws.{eqb-swap}
 use Rattle.derivation.proofs.check.both_free.Needs as need
 use Rattle.derivation.proofs.check.both_free.Needs.{then-has·by·then-has, then-has·by·else-has·then-has-2}
 

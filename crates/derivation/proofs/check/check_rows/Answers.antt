@@ -1,16 +1,15 @@
 -- The loop over the records: each adds a row, and the first fault ends it.
-use mathlib.Core.Path.{_≡_, refl, sym, _∙_, ap, ap₂, subst, subst⁻¹}
+use mathlib.Core.Path.{_≡_, refl, sym, _∙_, ap, subst, subst⁻¹}
 use mathlib.Core.Bool.{true}
 use mathlib.Core.Logic.{inl}
-use mathlib.Core.List.{List, [], _∷_, _++_, map}
-use Prim.Native.Nat.{ℕ, _+_, _<_, _≤_}
+use mathlib.Core.List.{[], _∷_, _++_, map}
+use Prim.Native.Nat.{_+_}
 use native.Mathlib.Omega.{arith}
 use lib.ListN.{length, take, drop, getD}
 use Rattle.std.specs.Of.Vec.{vec-items}
 use Rattle.std.specs.declared.option.Option.the-variants.{Some, None}
-use Rattle.std.proofs.shelf.Lists.{length-map, length-take-le, map-more, take-all}
+use Rattle.std.proofs.shelf.Lists.{map-more, take-all}
 use Rattle.std.proofs.shelf.Results.{err-from-errBy}
-use Rattle.derivation.specs.declared.rows.Record.{Record}
 use Rattle.derivation.specs.declared.rows.Row.{Row}
 use Rattle.derivation.specs.Faults.{firstFault}
 use Rattle.derivation.specs.Rows.{Knows, environment, environments, taken, allBelow, premises, rowFault, rowOf}

@@ -1,7 +1,6 @@
 use mathlib.Core.Path.{_≡_}
 use mathlib.Core.List.{map}
-use Prim.Native.Nat.{_≤_}
-use lib.ListN.{take, drop, length}
+use lib.ListN.{take, drop}
 use Rattle.std.specs.Of.Vec.{vec-items}
 use Rattle.derivation.specs.Accepted.{rowsFault}
 use Rattle.derivation.specs.Faults.{firstFault}

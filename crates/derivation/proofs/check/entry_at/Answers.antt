@@ -1,4 +1,3 @@
-use native.Mathlib.Omega.{arith}
 use Rattle.derivation.proofs.RowChecks.{entry-past}
 use Rattle.derivation.proofs.check.entry_at.Needs as need
 

@@ -1,6 +1,5 @@
 -- The environment that a rule makes of its premises'.
 use mathlib.Core.Path.{sym, _∙_, ap, ap₂}
-use lib.ListN.{getD}
 use Rattle.derivation.specs.Sets.{union, without}
 use Rattle.derivation.proofs.RowChecks.{env-one, env-two, env-both}
 use Rattle.derivation.proofs.check.environment.Needs as need

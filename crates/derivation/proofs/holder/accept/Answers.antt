@@ -1,6 +1,5 @@
 -- What passed its own checks is counted, and is then a derivation.
 use mathlib.Core.Path.{sym, _∙_, ap, ap₂, subst₃}
-use mathlib.Core.Bool.{true}
 use mathlib.Core.List.{List}
 use Prim.Native.Nat.{ℕ}
 use native.Mathlib.Omega.{arith}

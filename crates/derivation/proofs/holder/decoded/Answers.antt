@@ -1,12 +1,7 @@
 -- What was parsed is accepted, or its first fault is the answer.
-use mathlib.Core.Path.{_≡_, refl, sym, _∙_, ap}
 use mathlib.Core.Logic.{inl, inr, ⊎-elim}
-use mathlib.Core.List.{List, map}
 use Rattle.std.specs.Of.Vec.{vec-items}
 use Rattle.std.proofs.shelf.Results.{err-from-errBy}
-use Rattle.std.specs.declared.result.Result.{Result}
-use Rattle.std.specs.declared.result.Result.the-variants.{Ok, Err}
-use Rattle.derivation.specs.declared.refusal.Refusal.{Refusal}
 use Rattle.derivation.proofs.FormatLaws.{parse-counts}
 use Rattle.derivation.proofs.ReadLaws.{parsed-refused, accepted-gives}
 use Rattle.derivation.proofs.holder.decoded.Needs as need

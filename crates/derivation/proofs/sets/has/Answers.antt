@@ -1,7 +1,6 @@
 -- A shift and a mask read one bit; past bit 127 a mask has none.
 use mathlib.Core.Path.{sym, _∙_, ap}
 use Prim.Native.Nat.{_/_, _^_}
-use native.Mathlib.Omega.{arith}
 use lib.Bits.{and-mask}
 use lib.Dec.{eqb}
 use Rattle.std.proofs.shelf.Tests.{le-ltb}

@@ -1,16 +1,13 @@
 -- One entry of a type table: its parts are lower, so their sizes are known.
 use mathlib.Core.Path.{_≡_, sym, _∙_, ap}
-use mathlib.Core.Bool.{false}
 use Prim.Native.Nat.{ℕ}
 use native.Mathlib.Numerals.{add-one}
 use native.Mathlib.Omega.{arith}
 use lib.ListN.{length}
 use Rattle.std.specs.declared.option.Option.the-variants.{Some}
-use Rattle.derivation.specs.declared.types.TypeEntry.{TypeEntry}
 use Rattle.derivation.specs.declared.types.TypeId.{TypeId}
 use Rattle.derivation.specs.declared.refusal.Refusal.{Refusal}
 use Rattle.derivation.specs.declared.refusal.Refusal.the-variants.{RepeatedType, TooManyAtoms}
-use Rattle.derivation.specs.Trees.{listed}
 use Rattle.derivation.proofs.TypeChecks.{listed-true, listed-false, length-sizes, parts-fit, repeated, entry-fine, entry-wide}
 use Rattle.derivation.proofs.types.entry_size.Needs as need
 
