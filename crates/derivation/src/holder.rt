@@ -7,6 +7,7 @@ ghost use lib.ListN.{length};
 ghost use Rattle.std.specs.Results.{Cases};
 ghost use Rattle.std.specs.declared.option.Option.the-variants.{Some, None};
 ghost use Rattle.std.specs.Of.Vec.{vec-items};
+ghost use Rattle.derivation.specs.Booking.{starts as startsOf};
 ghost use Rattle.derivation.specs.Accepted.{Sound, fault, valid, wholeFault};
 ghost use Rattle.derivation.specs.Faults.{Checked as Passes, Gives};
 ghost use Rattle.derivation.specs.Format.{derivationOf};
@@ -31,6 +32,8 @@ use crate::refusal::RefusalFromRefused;
 use crate::rows::Row;
 use crate::rows::RowId;
 use crate::rows::Rule;
+use crate::rows::Start;
+use crate::starts::wire_starts;
 use crate::types::Size;
 use crate::types::TypeEntry;
 use crate::types::TypeId;
@@ -214,5 +217,12 @@ impl Holder {
         ensures { λ n. ⌜ n ≡ movesOf (vec-items (now (self .entry) .types)) (vec-items (now (self .entry) .rows)) ⌝ }
     {
         self.counts.moves
+    }
+
+    // How each wire starts, in the order of the wires.
+    pub fn starts(&self, heap: Global) -> Result<Vec<Start>, Refusal>
+        ensures { λ r. ⌜ Cases r (λ v. vec-items v ≡ startsOf (vec-items (now (self .entry) .types)) (vec-items (now (self .entry) .rows))) (λ e. e ≡ OutOfMemory Bytes) ⌝ }
+    {
+        wire_starts(heap, self.rows.as_slice(), self.counts.wires)
     }
 }

@@ -1,4 +1,6 @@
 // The rows of a derivation. A row is named by its number, and a variable by the row that introduces it.
+ghost use mathlib.Core.Path.{_≡_};
+ghost use Rattle.derivation.specs.Booking.{startWord};
 use crate::gate::Gate;
 use crate::types::Atom;
 use crate::types::TypeId;
@@ -17,6 +19,18 @@ pub enum Start {
     Given,
     Zero,
     One,
+}
+
+impl Start {
+    pub fn word(self) -> &'static str
+        ensures { λ r. ⌜ now r ≡ startWord self ⌝ }
+    {
+        match self {
+            Start::Given => "given",
+            Start::Zero => "zero",
+            Start::One => "one",
+        }
+    }
 }
 
 // The number of an end: a positive place of the last row, where a token comes to rest.
