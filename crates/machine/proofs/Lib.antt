@@ -1,1 +1,5 @@
-pub mod Scratch
+pub mod Belows
+pub mod Signs
+pub mod PortLaws
+pub mod Swapping
+pub mod Order
