@@ -3,3 +3,14 @@ pub mod Signs
 pub mod PortLaws
 pub mod Swapping
 pub mod Order
+pub mod Worked
+pub mod Joined
+pub mod StepLaws
+pub mod Marked
+pub mod Ways
+pub mod Progress
+pub mod Determined
+pub mod Foresight
+pub mod Gives
+pub mod Saturation
+pub mod Visits

@@ -1,5 +1,6 @@
 -- Worked derivations on the machine.
 use mathlib.Core.Path.{_≡_}
+use mathlib.Core.Bool.{Bool, true, false}
 use mathlib.Core.List.{List, [], _∷_, _++_, map}
 use Prim.Native.Nat.{ℕ, zero, suc}
 use lib.ListN.{length}
@@ -61,3 +62,26 @@ summed (Err e) = record { made = 0; at-ends = []; fired = [] }
 
 abbrev pub sweep : List ℕ → Summary
 sweep bytes = summed (derivationOf bytes)
+
+-- whether the moves of some wires, one after the other, are all possible
+abbrev pub allPossible : List TypeEntry → List Row → List Place → List ℕ → Bool
+allPossible es rows tokens [] = true
+allPossible es rows tokens (w ∷ ws) = elim (move es rows tokens w) [ Some m ↦ allPossible es rows (m .tokens) ws | None ↦ false ]
+
+abbrev pub possibleFrom : Result Derivation Refusal → List ℕ → Bool
+possibleFrom (Ok d) ws = allPossible (d .types) (d .rows) (starts (d .types) (d .rows)) ws
+possibleFrom (Err e) ws = false
+
+abbrev pub countsOf : Result Derivation Refusal → List ℕ
+countsOf (Ok d) = wires (d .types) (d .rows) ∷ moves (d .types) (d .rows) ∷ []
+countsOf (Err e) = []
+
+-- what the worked derivations come to, the lowest wire moving first
+pub record Examples : Type 0 where
+  pub bell-counts : countsOf (derivationOf (bell 5)) ≡ 2 ∷ 10 ∷ []
+  pub bell-swept : sweep (bell 5) ≡ record { made = 10; at-ends = 0 ∷ 1 ∷ []; fired = record { gate = H; wires = 0 ∷ [] } ∷ record { gate = Cx; wires = 0 ∷ 1 ∷ [] } ∷ [] }
+  pub bell-twice : possibleFrom (derivationOf (bell 5)) (1 ∷ 1 ∷ []) ≡ true
+  pub bell-waits : possibleFrom (derivationOf (bell 5)) (1 ∷ 1 ∷ 1 ∷ []) ≡ false
+  pub swap-swept : sweep swap ≡ record { made = 10; at-ends = 1 ∷ 0 ∷ []; fired = [] }
+  pub hx-swept : sweep hx ≡ record { made = 5; at-ends = 0 ∷ []; fired = record { gate = H; wires = 0 ∷ [] } ∷ [] }
+  pub cx-swept : sweep cx ≡ record { made = 7; at-ends = 0 ∷ 1 ∷ []; fired = record { gate = Cx; wires = 0 ∷ 1 ∷ [] } ∷ [] }

@@ -41,6 +41,14 @@ Saturates es rows =
     ((p : Place) → isPlace es rows p ≡ true → isEnd es rows p ≡ false → ((q : Place) → among q (together es rows p) ≡ true → S q) → S (advance es rows p)) →
     (p : Place) → isPlace es rows p ≡ true → S p
 
+-- the same of sets as tests
+abbrev pub Saturated : List TypeEntry → List Row → Type 0
+Saturated es rows =
+    (S : Place → Bool) →
+    ((w : ℕ) → w < wires es rows → S (getD (starts es rows) w noPlace) ≡ true) →
+    ((p : Place) → isPlace es rows p ≡ true → isEnd es rows p ≡ false → ((q : Place) → among q (together es rows p) ≡ true → S q ≡ true) → S (advance es rows p) ≡ true) →
+    (p : Place) → isPlace es rows p ≡ true → S p ≡ true
+
 -- all tokens are at ends
 abbrev pub Home : List TypeEntry → List Row → List Place → Type 0
 Home es rows tokens = (w : ℕ) → w < wires es rows → isEnd es rows (getD tokens w noPlace) ≡ true

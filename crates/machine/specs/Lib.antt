@@ -4,4 +4,6 @@ pub mod Steps
 pub mod Runs
 pub mod Gates
 pub mod Laws
+pub mod Visits
+pub mod Finals
 pub mod Examples
