@@ -14,3 +14,8 @@ pub mod Foresight
 pub mod Gives
 pub mod Saturation
 pub mod Visits
+pub mod Occurrences
+pub mod Starts
+pub mod Leads
+pub mod Count
+pub mod Assembled

@@ -174,7 +174,7 @@ gate-type (application b) g e = cc
 gate-type (pairing b) g e = cc
 
 -- a power of a gate has as many atoms as the gate acts on wires, all positive
-atoms-power : (g : GateName) → atoms (power (arity g)) ≡ arity g
+pub atoms-power : (g : GateName) → atoms (power (arity g)) ≡ arity g
 atoms-power H = refl
 atoms-power S = refl
 atoms-power T = refl
@@ -184,7 +184,7 @@ atoms-power Cx = refl
 atoms-power Cz = refl
 atoms-power Ccx = refl
 
-positive-power : (n i : ℕ) → positive (power n) i ≡ true
+pub positive-power : (n i : ℕ) → positive (power n) i ≡ true
 positive-power zero i = refl
 positive-power (suc zero) i = refl
 positive-power (suc (suc n)) i = cond-both (ltb i 1) true _ (λ b. b ≡ true) (λ e. refl) (λ e. positive-power (suc n) (i - 1))

@@ -1,6 +1,7 @@
 -- Lists of fired gates: their order on each wire, and swaps of neighbours.
 use mathlib.Core.Path.{_≡_}
 use mathlib.Core.Bool.{Bool, true, false, not, _&&_}
+use mathlib.Core.Logic.{_↔_}
 use mathlib.Core.List.{List, [], _∷_, _++_}
 use Prim.Native.Nat.{ℕ, _<_}
 use lib.ListN.{length, getD}
@@ -37,3 +38,15 @@ Wired fs = (i : ℕ) (d : Fired) → i < length fs → 0 < length (getD fs i d .
 abbrev pub acted : {S : Type 0} → (Fired → S → S) → S → List Fired → S
 acted act s [] = s
 acted act s (f ∷ fs) = acted act (act f s) fs
+
+-- two lists of gates have the same order on each wire exactly if swaps turn one into the other
+abbrev pub SwapsAreOrder : Type 0
+SwapsAreOrder = (fs gs : List Fired) → Wired fs → Wired gs → SameOrder fs gs ↔ Swaps fs gs
+
+-- gates without a common wire can be exchanged
+abbrev pub Commute : {S : Type 0} → (Fired → S → S) → Type 0
+Commute {S} act = (f g : Fired) → apart f g ≡ true → (s : S) → act f (act g s) ≡ act g (act f s)
+
+-- lists that swaps turn into each other make the same of a state, wherever gates without a common wire can be exchanged
+abbrev pub ActsAlike : Type 0 → Type 0
+ActsAlike S = (act : Fired → S → S) → Commute act → (fs gs : List Fired) → Swaps fs gs → (s : S) → acted act s fs ≡ acted act s gs

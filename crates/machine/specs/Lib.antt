@@ -6,4 +6,5 @@ pub mod Gates
 pub mod Laws
 pub mod Visits
 pub mod Finals
+pub mod Theory
 pub mod Examples
