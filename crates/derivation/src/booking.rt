@@ -12,7 +12,7 @@ use std::alloc::AllocError;
 use std::alloc::Global;
 
 // The line of a refusal.
-fn refusal_line(heap: Global, refusal: Refusal) -> Result<String, AllocError>
+pub fn refusal_line(heap: Global, refusal: Refusal) -> Result<String, AllocError>
     ensures { λ r. ⌜ made r (λ s. string-bytes s ≡ refusalLine refusal) ⌝ }
 {
     let number = refusal.number();
@@ -48,7 +48,7 @@ fn push_start_lines(heap: Global, text: &mut String, starts: &[Start]) -> Result
 }
 
 // The numbers of a held derivation, and how each of its wires starts.
-fn derivation_text(heap: Global, holder: &Holder) -> Result<String, AllocError>
+pub fn derivation_text(heap: Global, holder: &Holder) -> Result<String, AllocError>
     ensures { λ r. ⌜ made r (λ s. string-bytes s ≡ derivationText (vec-items (now (holder .entry) .types)) (vec-items (now (holder .entry) .rows))) ⌝ }
 {
     let mut text = counts_line(heap, holder.wires(), holder.gate_rows(), holder.moves())?;

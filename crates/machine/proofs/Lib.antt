@@ -19,3 +19,7 @@ pub mod Starts
 pub mod Leads
 pub mod Count
 pub mod Assembled
+pub mod SignLaws
+pub mod FactLaws
+pub mod StartTables
+pub mod MoveTables

@@ -8,3 +8,5 @@ pub mod Visits
 pub mod Finals
 pub mod Theory
 pub mod Examples
+pub mod Facts
+pub mod Calls

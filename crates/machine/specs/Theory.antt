@@ -1,9 +1,12 @@
 -- All that is promised of the machine of an accepted derivation.
+use mathlib.Core.Path.{_≡_}
 use mathlib.Core.List.{List}
 use Prim.Native.Nat.{ℕ}
 use Rattle.derivation.specs.declared.types.TypeEntry.{TypeEntry}
 use Rattle.derivation.specs.declared.rows.Row.{Row}
 use Rattle.derivation.specs.declared.rows.Place.{Place}
+use Rattle.std.specs.declared.result.Result.the-variants.{Ok}
+use Rattle.derivation.specs.Format.{derivationOf}
 use Rattle.machine.specs.Tokens.{Fired}
 use Rattle.machine.specs.Runs.{Reached}
 use Rattle.machine.specs.Gates.{Swaps, SwapsAreOrder}
@@ -35,3 +38,7 @@ pub record Theory (es : List TypeEntry) (rows : List Row) : Type 0 where
   -- so swaps of neighbours without a common wire turn the gates of one into those of the other
   pub swapped : (s t : List Place) (m n : ℕ) (fs gs : List Fired) → Reached es rows s m fs → Reached es rows t n gs → Home es rows s → Home es rows t → Swaps fs gs
   pub swaps : SwapsAreOrder
+
+-- if bytes are a derivation, all of this is promised of its machine
+abbrev pub Promised : List ℕ → Type 0
+Promised bytes = (es : List TypeEntry) (rows : List Row) → derivationOf bytes ≡ Ok (record { types = es; rows = rows }) → Theory es rows

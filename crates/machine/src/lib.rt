@@ -1,5 +1,5 @@
 // The token machine: where tokens go, and why they never wait for each other.
-
-pub fn nothing() -> u8 {
-    0
-}
+pub mod forecast;
+pub mod laws;
+pub mod machine;
+mod tables;
