@@ -37,7 +37,7 @@ module _ (es : List TypeEntry) (rows : List Row) where
   followed-by n p o = elim o [ Some q ↦ followed es rows n q | None ↦ p ]
 
   -- where next ends it is followed as far as wanted
-  followed-end : (n : ℕ) (p : Place) → next es rows p ≡ None → followed es rows n p ≡ p
+  pub followed-end : (n : ℕ) (p : Place) → next es rows p ≡ None → followed es rows n p ≡ p
   followed-end zero p e = refl
   followed-end (suc n) p e = ap (followed-by n p) e
 

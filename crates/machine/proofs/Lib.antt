@@ -23,3 +23,4 @@ pub mod SignLaws
 pub mod FactLaws
 pub mod StartTables
 pub mod MoveTables
+pub mod ForecastLaws
