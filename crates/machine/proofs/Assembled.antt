@@ -1,6 +1,6 @@
 -- The laws of the machine together, for every accepted derivation.
 use mathlib.Core.Path.{_≡_, subst}
-use mathlib.Core.Bool.{Bool, true}
+use mathlib.Core.Bool.{true}
 use mathlib.Core.List.{List}
 use Prim.Native.Nat.{ℕ, _<_}
 use lib.ListN.{length, getD}
@@ -16,16 +16,16 @@ use Rattle.machine.specs.Laws.{PortLaws, StartLaws, Saturates, Progress, Count
 use Rattle.machine.specs.Gates.{ActsAlike}
 use Rattle.machine.specs.Theory.{Theory}
 use Rattle.machine.proofs.PortLaws.{port-laws}
-use Rattle.machine.proofs.Starts.{start-laws}
 use Rattle.machine.proofs.Saturation.{saturates}
 use Rattle.machine.proofs.Progress.{progress, tokens-here, tokens-distinct, reached-length}
 use Rattle.machine.proofs.Determined.{determined}
-use Rattle.machine.proofs.Visits.{visited-once}
-use Rattle.machine.proofs.StepLaws.{moves-are-steps}
+use Rattle.machine.proofs.Starts.{start-laws}
 use Rattle.machine.proofs.Count.{count}
-use Rattle.machine.proofs.Order.{ordered, wired}
-use Rattle.machine.proofs.Swapping.{same-order-swaps, swaps-same-order, acts-same}
+use Rattle.machine.proofs.Visits.{visited-once}
 use Rattle.machine.proofs.Foresight.{foreseen}
+use Rattle.machine.proofs.Swapping.{same-order-swaps, swaps-same-order, acts-same}
+use Rattle.machine.proofs.Order.{ordered, wired}
+use Rattle.machine.proofs.StepLaws.{moves-are-steps}
 
 module _ (es : List TypeEntry) (rows : List Row) (a : Accepted es rows) where
   ports : PortLaws es rows

@@ -9,14 +9,15 @@ use native.Mathlib.Omega.{arith}
 use lib.Dec.{eqb}
 use lib.ListN.{length}
 use Rattle.std.specs.Joined.{joined}
-use Rattle.std.proofs.shelf.Tests.{or-cases, or-parts, or-left, both-ways, cases-bool, cond-true, cond-false, eqb-true, eq-eqb}
+use Rattle.std.proofs.shelf.Tests.{or-cases, or-parts, both-ways, cases-bool, cond-true, cond-false, eq-eqb}
 use Rattle.derivation.specs.declared.types.TypeEntry.{TypeEntry}
 use Rattle.derivation.specs.declared.rows.Row.{Row}
 use Rattle.derivation.specs.Rows.{premises}
 use Rattle.derivation.specs.Accepted.{occurrences, uses, Accepted}
 use Rattle.derivation.proofs.TreeLaws.{not-so}
-use Rattle.derivation.proofs.RowLaws.{premisesAt, Below}
+use Rattle.derivation.proofs.RowLaws.{premisesAt}
 use Rattle.machine.specs.Ports.{listed, belowFrom, below}
+use Rattle.machine.proofs.Basics.{listed-at, listed-first}
 
 -- a listed number occurs
 listed-occurs : (q : ℕ) (ps : List ℕ) → listed q ps ≡ true → 0 < occurrences q ps
@@ -33,15 +34,6 @@ unlisted q [] h = refl
 unlisted q (p ∷ ps) h =
     let (here, rest) = or-parts (eqb p q) (listed q ps) h in
     omega (arith, ap {B = ℕ} (λ b. cond b 1 0) here, unlisted q ps rest)
-
--- a listed number is below what all are below
-listed-below : (k q : ℕ) (ps : List ℕ) → Below k ps → listed q ps ≡ true → q < k
-listed-below k q [] low h = absurd (both-ways _ refl h)
-listed-below k q (p ∷ ps) low h =
-    ⊎-elim
-    (λ e. omega (arith, eqb-true p q e, low 0 (omega arith)))
-    (λ e. listed-below k q ps (λ i l. low (suc i) (omega arith)) e)
-    (or-cases (eqb p q) (listed q ps) h)
 
 -- occurrences in two lists
 occurrences-append : (q : ℕ) (ps qs : List ℕ) → occurrences q (ps ++ qs) ≡ occurrences q ps + occurrences q qs
@@ -88,7 +80,7 @@ user (row ∷ rows) q u = ⊎-elim (λ e. (0, omega arith, e)) (λ e. later (use
 module _ (es : List TypeEntry) (rows : List Row) (a : Accepted es rows) where
   -- premises are lower
   pub premise-lower : (r q : ℕ) → r < length rows → listed q (premisesAt rows r) ≡ true → q < r
-  premise-lower r q h l = listed-below r q (premisesAt rows r) (a .lower r h) l
+  premise-lower r q h l = let (i, k, e) = listed-at q (premisesAt rows r) l in omega (arith, a .lower r h i k)
 
   -- the row below a premise is the row that it is a premise of
   pub below-premise : (r q : ℕ) → r < length rows → listed q (premisesAt rows r) ≡ true → below es rows q ≡ r
@@ -112,7 +104,7 @@ module _ (es : List TypeEntry) (rows : List Row) (a : Accepted es rows) where
   -- two premises of a row differ
   pub premises-differ : (r p q : ℕ) → r < length rows → premisesAt rows r ≡ p ∷ q ∷ [] → p ≡ q → ⊥
   premises-differ r p q h e same =
-      let low = premise-lower r p h (ap (listed p) e ∙ or-left _ _ (eq-eqb p p refl)) in
+      let low = premise-lower r p h (ap (listed p) e ∙ listed-first p (q ∷ [])) in
       let once = a .once p (omega arith) in
       let twice = ap (occurrences p) e in
       omega (arith, uses-at rows p r h, ap {B = ℕ} (λ b. cond b 1 0) (eq-eqb p p refl), ap {B = ℕ} (λ b. cond b 1 0) (eq-eqb q p (sym same)))

@@ -5,34 +5,33 @@ use mathlib.Core.List.{List, [], _∷_}
 use mathlib.Core.Logic.{inl, inr, ⊎-elim}
 use Prim.Native.Nat.{ℕ, suc, _+_, _-_, _≤_, _<_}
 use native.Mathlib.Omega.{arith}
-use lib.Dec.{ltb}
 use lib.ListN.{length}
 use Rattle.std.specs.Options.{valueOr}
 use Rattle.std.specs.declared.option.Option.{Option}
 use Rattle.std.specs.declared.option.Option.the-variants.{Some, None}
-use Rattle.std.proofs.shelf.Tests.{and-parts, and-from, not-from-false, cases-bool, cases-lt, both-ways, ltb-true, lt-ltb, le-ltb, cond-true, cond-false}
+use Rattle.std.proofs.shelf.Tests.{and-parts, and-from, not-from-false, cases-bool, cases-lt, both-ways, lt-ltb, le-ltb, cond-true, cond-false}
 use Rattle.derivation.specs.declared.types.TypeEntry.{TypeEntry}
 use Rattle.derivation.specs.declared.gate.Gate.{Gate as GateName}
 use Rattle.derivation.specs.declared.rows.Rule.the-variants.{Gate}
 use Rattle.derivation.specs.declared.rows.Row.{Row}
-use Rattle.derivation.specs.declared.rows.Part.{Part}
-use Rattle.derivation.specs.declared.rows.Part.the-variants.{Ty, Variable as Var}
 use Rattle.derivation.specs.declared.rows.Place.{Place}
 use Rattle.derivation.specs.Gates.{arity}
 use Rattle.derivation.specs.Judgements.{ruleAt}
-use Rattle.derivation.specs.Places.{keep, places, negative, isGate, moves}
+use Rattle.derivation.specs.Places.{keep, places, isGate, moves}
 use Rattle.derivation.specs.Accepted.{Accepted}
 use Rattle.derivation.proofs.TreeLaws.{not-so}
-use Rattle.machine.specs.Ports.{at, next, prev, partWidth, isPlace, isEnd, isStart}
-use Rattle.machine.specs.Tokens.{Fired, samePart, samePlace, seats, isSeat, advance}
+use Rattle.machine.specs.Ports.{at, next, prev, isPlace, isEnd, isStart}
+use Rattle.machine.specs.Tokens.{Fired, samePlace, seats, isSeat, advance}
 use Rattle.machine.specs.Runs.{Reached, begun, moved}
 use Rattle.machine.specs.Laws.{PortLaws, StartLaws, Saturates, Home, Count}
+use Rattle.machine.proofs.Basics.{both-pass, same-some}
+use Rattle.machine.proofs.Signs.{gate-of}
+use Rattle.machine.proofs.Ways.{place-parts, same-place, place-same, seat-facts, next-seat, Mates}
 use Rattle.machine.proofs.Marked.{RunFact, leaving}
-use Rattle.machine.proofs.Ways.{same-place, place-same, seat-facts, seat-negative, Mates}
 use Rattle.machine.proofs.Progress.{machine, placed, with-from, with-to, marked, leftBy, move-moves, next-advance, prev-advance, reached-length, run-fact, home-visited}
 use Rattle.machine.proofs.Occurrences.{one, keep-cons}
 use Rattle.machine.proofs.Starts.{occ-places}
-use Rattle.machine.proofs.Leads.{isLate, lead, gate-of, gate-width, result-positive, lead-parts, lead-count}
+use Rattle.machine.proofs.Leads.{isLate, late-facts, lead, seats-width, result-positive, lead-parts, lead-count}
 
 -- what passes a test passes one of two others: so many of a list pass them together
 keep-either : {A : Type 0} (t u v : A → Bool) → ((x : A) → one (t x) + one (u x) ≡ one (v x))
@@ -53,13 +52,12 @@ holds t None = false
 module _ (es : List TypeEntry) (rows : List Row) (a : Accepted es rows) where
   -- a token at a seat goes on to the result of the same seat
   seat-advance : (p : Place) → isSeat es rows p ≡ true → advance es rows p ≡ at (p .row .0) (seats (ruleAt rows (p .row .0)) + p .atom .0)
-  unfolding next
   seat-advance p s =
       let (g, rule, h, e) = seat-facts es rows p s in
       let r = p .row .0 in
       let i = p .atom .0 in
-      let neg : negative es rows (at r i) ≡ true = seat-negative es rows a (at r i) (subst (λ x. isSeat es rows x ≡ true) (sym e) s) in
-      subst (λ (x : Place). advance es rows x ≡ at r (seats (ruleAt rows r) + i)) e (rw (neg, rule, lt-ltb i (arity g) h) refl)
+      subst (λ (x : Place). advance es rows x ≡ at r (seats (ruleAt rows r) + i)) e
+      (ap (λ o. valueOr o (at r i)) (next-seat es rows a r g rule i h) ∙ ap (λ k. at r (seats k + i)) (sym rule))
 
   -- and a token at a result came from the seat
   result-prev : (r i : ℕ) → isGate (ruleAt rows r) ≡ true → seats (ruleAt rows r) ≤ i → prev es rows (at r i) ≡ Some (at r (i - seats (ruleAt rows r)))
@@ -71,27 +69,15 @@ module _ (es : List TypeEntry) (rows : List Row) (a : Accepted es rows) where
 
   -- what stands before a later result is a seat, and no first one
   late-seat : (p q : Place) → isPlace es rows q ≡ true → isLate rows q ≡ true → prev es rows q ≡ Some p → (isSeat es rows p ≡ true) × (0 < p .atom .0)
-  late-seat p q here late e = go (q .part) (rest .0) (and-parts (ltb r (length rows)) _ here .1) e
-    where
-      r : ℕ
-      r = q .row .0
-      i : ℕ
-      i = q .atom .0
-      s : ℕ
-      s = seats (ruleAt rows r)
-      gated : isGate (ruleAt rows r) ≡ true
-      gated = and-parts (isGate (ruleAt rows r)) _ late .0
-      rest : (samePart Ty (q .part) ≡ true) × (ltb s i ≡ true)
-      rest = and-parts _ _ (and-parts (isGate (ruleAt rows r)) _ late .1)
-      go : (part : Part) → samePart Ty part ≡ true → ltb i (partWidth es rows r part) ≡ true → prev es rows (record { row = q .row; part = part; atom = q .atom }) ≡ Some p
-          → (isSeat es rows p ≡ true) × (0 < p .atom .0)
-      go Ty t h e =
-          let above = ltb-true s i (rest .1) in
-          let below = ltb-true i _ h in
-          let both = gate-width es rows a r gated in
-          let same : at r (i - s) ≡ p = cc (result-prev r i gated (omega arith)) in
-          subst (λ (x : Place). (isSeat es rows x ≡ true) × (0 < x .atom .0)) same (lt-ltb (i - s) s (omega arith), omega arith)
-      go (Var z) t h e = absurd (both-ways _ refl t)
+  late-seat p q here late e =
+      let r = q .row .0 in
+      let i = q .atom .0 in
+      let s = seats (ruleAt rows r) in
+      let (gated, above, whole) = late-facts rows q late in
+      let both = seats-width es rows a r gated in
+      let (row, below) = place-parts es rows (at r i) (subst (λ (x : Place). isPlace es rows x ≡ true) (sym whole) here) in
+      let same = same-some (sym (result-prev r i gated (omega arith)) ∙ ap (prev es rows) whole ∙ e) in
+      subst (λ (x : Place). (isSeat es rows x ≡ true) × (0 < x .atom .0)) same (lt-ltb (i - s) s (omega arith), omega arith)
 
   -- what stands behind a seat that is no first one is a later result
   seat-late : (p : Place) → isSeat es rows p ≡ true → 0 < p .atom .0 → isLate rows (advance es rows p) ≡ true
@@ -135,8 +121,8 @@ module _ (es : List TypeEntry) (rows : List Row) (a : Accepted es rows) where
     lead-advance : (isSeat es rows p ≡ true → p .atom .0 ≡ 0) → lead es rows (advance es rows p) ≡ true
     lead-advance first =
         let q = advance es rows p in
-        let came = prev-advance es rows a ports begin p here on in
-        let there = ports .forth p q here (next-advance es rows a ports begin p here on) .0 in
+        let came = prev-advance es rows ports p here on in
+        let there = ports .forth p q here (next-advance es rows ports p here on) .0 in
         and-from _ _ there (and-from _ _
         (not-from-false _ (not-so _ (λ y. let none = ports .at-start q there y in let z : _≡_ {A = ℕ} 0 1 = cc in omega arith)))
         (not-from-false _ (not-so _ (λ y. let (seat, more) = late-seat p q there y came in omega (arith, first seat)))))
@@ -147,11 +133,6 @@ module _ (es : List TypeEntry) (rows : List Row) (a : Accepted es rows) where
         (λ (h : 0 < p .atom .0). absurd (both-ways _ (lead-parts es rows (advance es rows p) y .2) (seat-late p s h)))
         (λ h. omega arith)
         (cases-lt 0 (p .atom .0))
-
--- tests that pass together are equal
-both-pass : (b c : Bool) → (b ≡ true → c ≡ true) → (c ≡ true → b ≡ true) → b ≡ c
-both-pass true c h k = sym (h refl)
-both-pass false c h k = sym (not-so c (λ e. both-ways false refl (k e)))
 
 module _ (es : List TypeEntry) (rows : List Row) (a : Accepted es rows) (ports : PortLaws es rows) (begin : StartLaws es rows) where
   -- q is a lead place, and the place before it passes a test
@@ -173,7 +154,7 @@ module _ (es : List TypeEntry) (rows : List Row) (a : Accepted es rows) (ports :
   -- and the place after one that passes is so, if it is a lead place
   led-to : (t : Place → Bool) (p : Place) → isPlace es rows p ≡ true → isEnd es rows p ≡ false → lead es rows (advance es rows p) ≡ true → t p ≡ true
       → led t (advance es rows p) ≡ true
-  led-to t p here on first y = and-from _ _ first (ap (holds t) (prev-advance es rows a ports begin p here on) ∙ y)
+  led-to t p here on first y = and-from _ _ first (ap (holds t) (prev-advance es rows ports p here on) ∙ y)
 
   -- what a token at p enters with those that move together with it
   module _ (p : Place) (here : isPlace es rows p ≡ true) (on : isEnd es rows p ≡ false) where
@@ -202,6 +183,7 @@ module _ (es : List TypeEntry) (rows : List Row) (a : Accepted es rows) (ports :
             let (x, x-here, x-on, e, y) = led-from (machine es rows .with p) q h in
             let first = advance-lead es rows a ports begin x x-here x-on (subst (λ z. lead es rows z ≡ true) (sym e) (and-parts (lead es rows q) _ h .0)) in
             place-same q entry (sym e ∙ ap (advance es rows) (sym (leader-only es rows a p x (with-from es rows p x y .1) first)))
+
         to : samePlace q entry ≡ true → led (machine es rows .with p) q ≡ true
         to h =
             subst (λ z. led (machine es rows .with p) z ≡ true) (sym (same-place q entry h))
@@ -219,6 +201,7 @@ module _ (es : List TypeEntry) (rows : List Row) (a : Accepted es rows) (ports :
       alone true true h = absurd (h refl refl)
       alone true false h = refl
       alone false c h = omega arith
+
       go : (b : Bool) (o : Option Place) → one (b && holds t o) + one (b && holds u o) ≡ one (b && holds (λ p. t p || u p) o)
       go true (Some p) = alone (t p) (u p) (apart p)
       go true None = refl
@@ -264,7 +247,7 @@ module _ (es : List TypeEntry) (rows : List Row) (a : Accepted es rows) (ports :
       let f = run-fact es rows a ports begin r in
       let left = leftBy es rows r in
       let apart : (q : Place) → left q ≡ true → machine es rows .with p q ≡ true → ⊥
-              = λ q y z. both-ways (left p) (f .off w h) (f .whole q p (marked es rows a ports begin .with-sym p q z) y) in
+      = λ q y z. both-ways (left p) (f .off w h) (f .whole q p (marked es rows a ports begin .with-sym p q z) y) in
       ⊎-elim
       (λ e. e)
       (λ on. absurd (omega (arith, full, reached-many r, led-more left p (f .stands w h) on apart, led-few (leaving (machine es rows) left p))))
@@ -277,16 +260,18 @@ module _ (es : List TypeEntry) (rows : List Row) (a : Accepted es rows) (ports :
       where
         left : Place → Bool
         left = leftBy es rows r
+
         f : RunFact (machine es rows) (placed tokens) left
         f = run-fact es rows a ports begin r
+
         all : (q : Place) → led left q ≡ lead es rows q
         all q = both-pass _ _ (λ h. and-parts (lead es rows q) _ h .0) (λ h.
             let (here, no-start, no-late) = lead-parts es rows q h in
             ⊎-elim
             (λ (w, l, e). absurd (both-ways _ no-start (subst (λ x. isStart es rows x ≡ true) e (begin .each w l .1))))
             (λ (p, y, e).
-                let (there, on, next) = f .goes-on p y in
-                subst (λ x. led left x ≡ true) e (led-to left p there on (subst (λ x. lead es rows x ≡ true) (sym e) h) y))
+            let (there, on, next) = f .goes-on p y in
+            subst (λ x. led left x ≡ true) e (led-to left p there on (subst (λ x. lead es rows x ≡ true) (sym e) h) y))
             (f .came q (home-visited es rows a ports begin sat r home q here)))
 
     -- all are at ends exactly if the moves number N, and never more than N can be made

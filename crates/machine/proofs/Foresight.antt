@@ -5,7 +5,6 @@ use mathlib.Core.Logic.{⊎-elim}
 use mathlib.Core.List.{List, map}
 use Prim.Native.Nat.{ℕ, zero, suc, _≤_, _<_}
 use native.Mathlib.Omega.{arith}
-use lib.ListN.{length, getD}
 use Rattle.std.specs.declared.option.Option.{Option}
 use Rattle.std.specs.declared.option.Option.the-variants.{Some, None}
 use Rattle.std.proofs.shelf.Lists.{ext-getD, length-map, getD-map}
@@ -16,9 +15,9 @@ use Rattle.derivation.specs.declared.rows.Place.{Place}
 use Rattle.derivation.specs.Accepted.{Accepted}
 use Rattle.derivation.specs.Places.{wires, moves}
 use Rattle.machine.specs.Ports.{next, starts, isEnd}
-use Rattle.machine.specs.Tokens.{Fired, noPlace, advance}
+use Rattle.machine.specs.Tokens.{Fired, noPlace}
 use Rattle.machine.specs.Runs.{Reached, begun, moved}
-use Rattle.machine.specs.Laws.{PortLaws, StartLaws, Count, Home}
+use Rattle.machine.specs.Laws.{PortLaws, StartLaws, Count}
 use Rattle.machine.specs.Finals.{followed, finals, Foreseen}
 use Rattle.machine.proofs.Progress.{machine, placed, move-moves, next-advance, reached-length, tokens-here, marked}
 
@@ -59,8 +58,8 @@ module _ (es : List TypeEntry) (rows : List Row) where
         let s = move-moves es rows before (reached-length es rows begin r) w m e in
         ⊎-elim
         (λ y.
-            let far = next-advance es rows a ports begin (placed before v) (tokens-here es rows a ports begin r v h) (no-end (placed before w) (placed before v) y) in
-            (suc k, omega arith, subst (Leads (suc k) (placed (starts es rows) v)) (sym (s .goes v h y)) (leads-on k _ _ _ l far)))
+        let far = next-advance es rows ports (placed before v) (tokens-here es rows a ports begin r v h) (no-end (placed before w) (placed before v) y) in
+        (suc k, omega arith, subst (Leads (suc k) (placed (starts es rows) v)) (sym (s .goes v h y)) (leads-on k _ _ _ l far)))
         (λ no. (k, omega arith, subst (Leads k (placed (starts es rows) v)) (sym (s .stays v h no)) l))
         (cases-bool (machine es rows .with (placed before w) (placed before v)))
 
@@ -71,7 +70,7 @@ module _ (es : List TypeEntry) (rows : List Row) where
         let all = count tokens n fired r .0 .0 home in
         ext-getD noPlace tokens (map (followed es rows (moves es rows)) (starts es rows)) (len ∙ sym (length-map (starts es rows) (followed es rows (moves es rows)) ∙ begin .count))
         (λ w h.
-            let l = subst (λ k. w < k) len h in
-            let (k, le, leads) = gone r w l in
-            sym (getD-map (followed es rows (moves es rows)) (starts es rows) w noPlace noPlace (subst (λ j. w < j) (sym (begin .count)) l)
-            ∙ followed-leads k (moves es rows) _ _ (omega arith) leads (ports .at-end _ (home w l))))
+        let l = subst (λ k. w < k) len h in
+        let (k, le, leads) = gone r w l in
+        sym (getD-map (followed es rows (moves es rows)) (starts es rows) w noPlace noPlace (subst (λ j. w < j) (sym (begin .count)) l)
+        ∙ followed-leads k (moves es rows) _ _ (omega arith) leads (ports .at-end _ (home w l))))

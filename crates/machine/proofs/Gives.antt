@@ -2,31 +2,13 @@
 use mathlib.Core.Path.{_≡_, refl, _∙_, subst}
 use mathlib.Core.Bool.{Bool, true, false, not}
 use mathlib.Core.Logic.{⊎-elim}
-use Prim.Native.Nat.{ℕ, zero, suc, _+_, _-_, _≤_, _<_}
-use native.Mathlib.Nat.{add-sub-cancel-left}
+use Prim.Native.Nat.{ℕ, _+_, _-_, _≤_, _<_}
 use native.Mathlib.Omega.{arith}
-use lib.Dec.{ltb}
-use Rattle.std.proofs.shelf.Tests.{both-ways, not-from-false, not-from-true, cond-true, cond-both, cases-lt, lt-ltb, le-ltb}
+use Rattle.std.proofs.shelf.Tests.{both-ways, not-from-false, not-from-true, cases-lt}
 use Rattle.derivation.specs.declared.gate.Gate.{Gate}
-use Rattle.derivation.specs.declared.gate.Gate.the-variants.{H, S, T, X, Z, Cx, Cz, Ccx}
 use Rattle.derivation.specs.Gates.{arity}
 use Rattle.derivation.specs.Trees.{Tree, qubit, arrow, pair, atoms, positive, power}
-
--- signs of atoms
-
--- an atom of the left part of an arrow or a pair
-pub positive-argument : (a c : Tree) (i : ℕ) → i < atoms a → positive (arrow a c) i ≡ not (positive a i)
-positive-argument a c i h = cond-true _ _ _ (lt-ltb i (atoms a) h)
-
-pub positive-first : (a c : Tree) (i : ℕ) → i < atoms a → positive (pair a c) i ≡ positive a i
-positive-first a c i h = cond-true _ _ _ (lt-ltb i (atoms a) h)
-
--- an atom of the right part
-pub positive-result : (a c : Tree) (i : ℕ) → positive (arrow a c) (atoms a + i) ≡ positive c i
-positive-result a c i = rw (le-ltb (atoms a + i) (atoms a) (omega arith), add-sub-cancel-left (atoms a) i)
-
-pub positive-second : (a c : Tree) (i : ℕ) → positive (pair a c) (atoms a + i) ≡ positive c i
-positive-second a c i = rw (le-ltb (atoms a + i) (atoms a) (omega arith), add-sub-cancel-left (atoms a) i)
+use Rattle.machine.proofs.Signs.{positive-argument, positive-result, positive-first, positive-second, power-positive, power-atoms}
 
 -- what holds of the first m numbers and of the n after them holds of all
 both-parts : (P : ℕ → Type 0) (m n : ℕ) → ((i : ℕ) → i < m → P i) → ((i : ℕ) → i < n → P (m + i)) → (i : ℕ) → i < m + n → P i
@@ -69,21 +51,25 @@ mutual
   -- a value gives if its positive atoms are reached, and its user takes if the negative ones are
   pub gives-all : (t : Tree) {v : ℕ → Type 0} → ((i : ℕ) → i < atoms t → positive t i ≡ true → v i) → Gives t v
   gives-all qubit h = h 0 (omega arith) refl
-  gives-all (arrow a c) h =
-      ( (λ _. gives-all c (λ i l e. h (atoms a + i) (omega arith) (positive-result a c i ∙ e)))
-      , (λ _. takes-all a (λ i l e. h i (omega arith) (positive-argument a c i l ∙ not-from-false _ e))) )
-  gives-all (pair a c) h =
-      ( gives-all a (λ i l e. h i (omega arith) (positive-first a c i l ∙ e))
-      , gives-all c (λ i l e. h (atoms a + i) (omega arith) (positive-second a c i ∙ e)) )
+  gives-all (arrow a c) h = (
+    (λ _. gives-all c (λ i l e. h (atoms a + i) (omega arith) (positive-result a c i ∙ e))),
+    (λ _. takes-all a (λ i l e. h i (omega arith) (positive-argument a c i l ∙ not-from-false _ e))),
+  )
+  gives-all (pair a c) h = (
+    gives-all a (λ i l e. h i (omega arith) (positive-first a c i l ∙ e)),
+    gives-all c (λ i l e. h (atoms a + i) (omega arith) (positive-second a c i ∙ e)),
+  )
 
   pub takes-all : (t : Tree) {v : ℕ → Type 0} → ((i : ℕ) → i < atoms t → positive t i ≡ false → v i) → Takes t v
   takes-all qubit h = tt
-  takes-all (arrow a c) h =
-      ( gives-all a (λ i l e. h i (omega arith) (positive-argument a c i l ∙ not-from-true _ e))
-      , takes-all c (λ i l e. h (atoms a + i) (omega arith) (positive-result a c i ∙ e)) )
-  takes-all (pair a c) h =
-      ( (λ _. takes-all c (λ i l e. h (atoms a + i) (omega arith) (positive-second a c i ∙ e)))
-      , (λ _. takes-all a (λ i l e. h i (omega arith) (positive-first a c i l ∙ e))) )
+  takes-all (arrow a c) h = (
+    gives-all a (λ i l e. h i (omega arith) (positive-argument a c i l ∙ not-from-true _ e)),
+    takes-all c (λ i l e. h (atoms a + i) (omega arith) (positive-result a c i ∙ e)),
+  )
+  takes-all (pair a c) h = (
+    (λ _. takes-all c (λ i l e. h (atoms a + i) (omega arith) (positive-second a c i ∙ e))),
+    (λ _. takes-all a (λ i l e. h i (omega arith) (positive-first a c i l ∙ e))),
+  )
 
 -- passages
 
@@ -116,47 +102,26 @@ mutual
   -- what is given is passed on, and what is taken is passed back
   pub gives-on : (t : Tree) {v w : ℕ → Type 0} → Leads t v w → Gives t v → Gives t w
   gives-on qubit l g = l 0 (omega arith) .onward refl g
-  gives-on (arrow a c) l g =
-      ( (λ x. gives-on c (leads-result a c l) (g .0 (gives-on a (leads-argument a c l) x)))
-      , (λ y. takes-on a (leads-argument a c l) (g .1 (takes-on c (leads-result a c l) y))) )
+  gives-on (arrow a c) l g = (
+    (λ x. gives-on c (leads-result a c l) (g .0 (gives-on a (leads-argument a c l) x))),
+    (λ y. takes-on a (leads-argument a c l) (g .1 (takes-on c (leads-result a c l) y))),
+  )
   gives-on (pair a c) l g = (gives-on a (leads-first a c l) (g .0), gives-on c (leads-second a c l) (g .1))
 
   pub takes-on : (t : Tree) {v w : ℕ → Type 0} → Leads t v w → Takes t w → Takes t v
   takes-on qubit l k = tt
   takes-on (arrow a c) l k = (gives-on a (leads-argument a c l) (k .0), takes-on c (leads-result a c l) (k .1))
-  takes-on (pair a c) l k =
-      ( (λ x. takes-on c (leads-second a c l) (k .0 (gives-on a (leads-first a c l) x)))
-      , (λ y. takes-on a (leads-first a c l) (k .1 (gives-on c (leads-second a c l) y))) )
-
--- qubits side by side
-
-pub atoms-power : (n : ℕ) → 0 < n → atoms (power n) ≡ n
-atoms-power zero h = absurd (omega arith)
-atoms-power (suc zero) h = refl
-atoms-power (suc (suc n)) h = omega (arith, atoms-power (suc n) (omega arith))
-
-pub positive-power : (n i : ℕ) → positive (power n) i ≡ true
-positive-power zero i = refl
-positive-power (suc zero) i = refl
-positive-power (suc (suc n)) i = cond-both (ltb i 1) true _ (λ b. b ≡ true) (λ e. refl) (λ e. positive-power (suc n) (i - 1))
-
--- a gate acts on some wire
-pub arity-some : (g : Gate) → 0 < arity g
-arity-some H = omega arith
-arity-some S = omega arith
-arity-some T = omega arith
-arity-some X = omega arith
-arity-some Z = omega arith
-arity-some Cx = omega arith
-arity-some Cz = omega arith
-arity-some Ccx = omega arith
+  takes-on (pair a c) l k = (
+    (λ x. takes-on c (leads-second a c l) (k .0 (gives-on a (leads-first a c l) x))),
+    (λ y. takes-on a (leads-first a c l) (k .1 (gives-on c (leads-second a c l) y))),
+  )
 
 -- qubits give exactly if all of them are reached, and take nothing
 pub power-takes : (n : ℕ) (v : ℕ → Type 0) → Takes (power n) v
-power-takes n v = takes-all (power n) (λ i l e. absurd (both-ways _ e (positive-power n i)))
+power-takes n v = takes-all (power n) (λ i l e. absurd (both-ways _ e (power-positive n i)))
 
-pub power-gives : (n : ℕ) (v : ℕ → Type 0) → 0 < n → ((i : ℕ) → i < n → v i) → Gives (power n) v
-power-gives n v some h = let e = atoms-power n some in gives-all (power n) (λ i l p. h i (omega arith))
+pub power-gives : (g : Gate) (v : ℕ → Type 0) → ((i : ℕ) → i < arity g → v i) → Gives (power (arity g)) v
+power-gives g v h = let e = power-atoms g in gives-all (power (arity g)) (λ i l p. h i (omega arith))
 
-pub power-given : (n : ℕ) (v : ℕ → Type 0) → Gives (power n) v → (i : ℕ) → i < n → v i
-power-given n v g i h = let e = atoms-power n (omega arith) in full (power n) v g (power-takes n v) i (omega arith)
+pub power-given : (g : Gate) (v : ℕ → Type 0) → Gives (power (arity g)) v → (i : ℕ) → i < arity g → v i
+power-given g v x i h = let e = power-atoms g in full (power (arity g)) v x (power-takes (arity g) v) i (omega arith)

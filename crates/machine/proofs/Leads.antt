@@ -1,5 +1,5 @@
 -- The lead places: those that a move is counted by. Each place but the starts is one, save the results of a gate after its first.
-use mathlib.Core.Path.{_≡_, refl, sym, _∙_, ap, ap₂}
+use mathlib.Core.Path.{_≡_, refl, sym, _∙_, ap, ap₂, subst}
 use mathlib.Core.Bool.{Bool, true, false, not, cond, _&&_, and-false, and-assoc, and-self-left}
 use mathlib.Core.List.{List, _++_, map}
 use mathlib.Core.Logic.{⊎-elim}
@@ -21,7 +21,6 @@ use Rattle.derivation.specs.declared.rows.Place.{Place}
 use Rattle.derivation.specs.declared.gate.Gate.{Gate as GateName}
 use Rattle.derivation.specs.declared.gate.Gate.the-variants.{H, S, T, X, Z, Cx, Cz, Ccx}
 use Rattle.derivation.specs.Gates.{arity}
-use Rattle.derivation.specs.Trees.{atoms}
 use Rattle.derivation.specs.Rows.{noRow}
 use Rattle.derivation.specs.Judgements.{ruleAt}
 use Rattle.derivation.specs.Places.{numbers, keep, places, negative, isBit, isGate, mates, allMates, wires, moves}
@@ -31,13 +30,22 @@ use Rattle.derivation.proofs.PlaceLaws.{sumTo-same, size-joined, length-numbers
 use Rattle.derivation.proofs.CountLaws.{mates-more}
 use Rattle.machine.specs.Ports.{at, width, partWidth, isPlace, isStart, starts}
 use Rattle.machine.specs.Tokens.{samePart, samePlace, seats}
-use Rattle.machine.proofs.Ways.{gate-tree, atoms-power, positive-power}
+use Rattle.machine.proofs.Signs.{gate-of}
+use Rattle.machine.proofs.Ways.{same-part, gate-width, gate-negative}
 use Rattle.machine.proofs.Occurrences.{one, one-small, occ, occ-keep, as-many}
 use Rattle.machine.proofs.Starts.{sum-none, sum-one, sum-at, occ-places, occ-starts, length-starts}
 
 -- a result of a gate, but not its first
 abbrev pub isLate : List Row → Place → Bool
 isLate rows p = isGate (ruleAt rows (p .row .0)) && (samePart Ty (p .part) && ltb (seats (ruleAt rows (p .row .0))) (p .atom .0))
+
+-- the gate's row, the atom and the whole of such a place
+pub late-facts : (rows : List Row) (p : Place) → isLate rows p ≡ true
+    → (isGate (ruleAt rows (p .row .0)) ≡ true) × (seats (ruleAt rows (p .row .0)) < p .atom .0) × (at (p .row .0) (p .atom .0) ≡ p)
+late-facts rows p h =
+    let (gated, rest) = and-parts (isGate (ruleAt rows (p .row .0))) _ h in
+    let (part, above) = and-parts (samePart Ty (p .part)) _ rest in
+    (gated, ltb-true _ _ above, λ i. record { row = p .row; part = same-part Ty (p .part) part i; atom = p .atom })
 
 -- a place that is no start and no later result of a gate
 abbrev pub lead : List TypeEntry → List Row → Place → Bool
@@ -53,21 +61,17 @@ lead-parts es rows p h =
 
 -- a gate has a seat, and one mate less than seats
 seats-some : (rule : Rule) → isGate rule ≡ true → seats rule ≡ suc (mates rule)
-seats-some Variable e = absurd (both-ways _ refl e)
-seats-some Zero e = absurd (both-ways _ refl e)
-seats-some One e = absurd (both-ways _ refl e)
-seats-some (Gate H) e = refl
-seats-some (Gate S) e = refl
-seats-some (Gate T) e = refl
-seats-some (Gate X) e = refl
-seats-some (Gate Z) e = refl
-seats-some (Gate Cx) e = refl
-seats-some (Gate Cz) e = refl
-seats-some (Gate Ccx) e = refl
-seats-some (Lambda p x) e = absurd (both-ways _ refl e)
-seats-some (PairLambda p x y) e = absurd (both-ways _ refl e)
-seats-some (Apply f a) e = absurd (both-ways _ refl e)
-seats-some (Pair l r) e = absurd (both-ways _ refl e)
+seats-some rule e = let (g, k) = gate-of rule e in subst (λ k. seats k ≡ suc (mates k)) (sym k) (go g)
+  where
+    go : (g : GateName) → arity g ≡ suc (mates (Gate g))
+    go H = refl
+    go S = refl
+    go T = refl
+    go X = refl
+    go Z = refl
+    go Cx = refl
+    go Cz = refl
+    go Ccx = refl
 
 -- other rules have no mates
 mates-none : (rule : Rule) → isGate rule ≡ false → mates rule ≡ 0
@@ -80,30 +84,18 @@ mates-none (PairLambda p x y) e = refl
 mates-none (Apply f a) e = refl
 mates-none (Pair l r) e = refl
 
--- a gate's rule
-pub gate-of : (rule : Rule) → isGate rule ≡ true → (g : GateName) × (rule ≡ Gate g)
-gate-of Variable e = absurd (both-ways _ refl e)
-gate-of Zero e = absurd (both-ways _ refl e)
-gate-of One e = absurd (both-ways _ refl e)
-gate-of (Gate g) e = (g, refl)
-gate-of (Lambda p x) e = absurd (both-ways _ refl e)
-gate-of (PairLambda p x y) e = absurd (both-ways _ refl e)
-gate-of (Apply f a) e = absurd (both-ways _ refl e)
-gate-of (Pair l r) e = absurd (both-ways _ refl e)
-
 module _ (es : List TypeEntry) (rows : List Row) (a : Accepted es rows) (r : ℕ) (gated : isGate (ruleAt rows r) ≡ true) where
   -- a gate row's type has two atoms for each seat
-  pub gate-width : width es rows r ≡ seats (ruleAt rows r) + seats (ruleAt rows r)
-  gate-width =
+  pub seats-width : width es rows r ≡ seats (ruleAt rows r) + seats (ruleAt rows r)
+  seats-width =
       let (g, e) = gate-of (ruleAt rows r) gated in
-      omega (arith, ap atoms (gate-tree es rows a r g e), atoms-power g, ap seats e)
+      omega (arith, gate-width es rows a r g e, ap seats e)
 
   -- and its results are positive
   pub result-positive : (i : ℕ) → seats (ruleAt rows r) ≤ i → negative es rows (at r i) ≡ false
   result-positive i h =
       let (g, e) = gate-of (ruleAt rows r) gated in
-      let past = le-ltb i (arity g) (omega (arith, ap seats e)) in
-      rw (gate-tree es rows a r g e, atoms-power g, past, positive-power (arity g) (i - arity g)) refl
+      gate-negative es rows a r g e i ∙ le-ltb i (arity g) (omega (arith, ap seats e))
 
 -- m numbers above k, of which i is one or not
 sum-above : (k i m : ℕ) → sumTo (λ j. one (eqb (suc (k + j)) i)) m ≡ one (ltb i (suc (k + m)) && ltb k i)
@@ -142,7 +134,7 @@ module _ (es : List TypeEntry) (rows : List Row) (a : Accepted es rows) where
           → sumTo (λ j. one (samePart Ty part && eqb (suc (seats (ruleAt rows r) + j)) i)) (mates (ruleAt rows r))
           ≡ one (ltb i (partWidth es rows r part) && (isGate (ruleAt rows r) && (samePart Ty part && ltb (seats (ruleAt rows r)) i)))
       go Ty e =
-          let both : width es rows r ≡ suc (seats (ruleAt rows r) + mates (ruleAt rows r)) = omega (arith, gate-width es rows a r e, seats-some (ruleAt rows r) e) in
+          let both : width es rows r ≡ suc (seats (ruleAt rows r) + mates (ruleAt rows r)) = omega (arith, seats-width es rows a r e, seats-some (ruleAt rows r) e) in
           rw (e, both) (sum-above (seats (ruleAt rows r)) i (mates (ruleAt rows r)))
       go (Var z) e = rw e (sum-none (λ j. 0) _ (λ j m. refl) ∙ ap one (sym (and-false _)))
 
@@ -178,31 +170,28 @@ module _ (es : List TypeEntry) (rows : List Row) (a : Accepted es rows) where
       go : (n : ℕ) → n ≤ length rows → sumTo (λ r. length (latesAt r)) n ≡ allMates (take n rows)
       go zero h = refl
       go (suc n) h =
-          omega (arith, go n (omega arith), length-map (numbers 0 (mates (ruleAt rows n))) (λ i. at n (suc (seats (ruleAt rows n) + i))), length-numbers 0 (mates (ruleAt rows n)),
-          mates-more rows n noRow h, ap (λ k. allMates (take k rows)) (add-one n))
+          omega (
+            arith,
+            go n (omega arith),
+            length-map (numbers 0 (mates (ruleAt rows n))) (λ i. at n (suc (seats (ruleAt rows n) + i))),
+            length-numbers 0 (mates (ruleAt rows n)),
+            mates-more rows n noRow h,
+            ap (λ k. allMates (take k rows)) (add-one n),
+          )
 
   -- a later result of a gate is no start
   late-no-start : (q : Place) → isLate rows q ≡ true → isStart es rows q ≡ false
-  late-no-start q hl = go (q .part) (rest .0)
-    where
-      r : ℕ
-      r = q .row .0
-      gated : isGate (ruleAt rows r) ≡ true
-      gated = and-parts (isGate (ruleAt rows r)) _ hl .0
-      rest : (samePart Ty (q .part) ≡ true) × (ltb (seats (ruleAt rows r)) (q .atom .0) ≡ true)
-      rest = and-parts _ _ (and-parts (isGate (ruleAt rows r)) _ hl .1)
-      go : (part : Part) → samePart Ty part ≡ true → isStart es rows (record { row = q .row; part = part; atom = q .atom }) ≡ false
-      go Ty e =
-          let above = ltb-true (seats (ruleAt rows r)) (q .atom .0) (rest .1) in
-          rw (result-positive es rows a r gated (q .atom .0) (omega arith)) (ap isBit (gate-of (ruleAt rows r) gated .1))
-      go (Var z) e = absurd (both-ways _ refl e)
+  late-no-start q hl =
+      let (gated, above, e) = late-facts rows q hl in
+      subst (λ (x : Place). isStart es rows x ≡ false) e
+      (rw (result-positive es rows a (q .row .0) gated (q .atom .0) (omega arith)) (ap isBit (gate-of (ruleAt rows (q .row .0)) gated .1)))
 
   -- starts, later results and lead places are all places
   parts-all : wires es rows + allMates rows + length (keep (lead es rows) (places es rows)) ≡ length (places es rows)
   parts-all =
       let leads = keep (lead es rows) (places es rows) in
       let listed = as-many (starts es rows ++ (lates ++ leads)) (places es rows)
-          (λ q. omega (arith, same q, occ-places es rows a q, one-small (isPlace es rows q))) same in
+      (λ q. omega (arith, same q, occ-places es rows a q, one-small (isPlace es rows q))) same in
       omega (arith, listed, length-append (starts es rows) (lates ++ leads), length-append lates leads, length-starts es rows, length-lates)
     where
       split : (p s t : Bool) → (t ≡ true → s ≡ false) → one (p && s) + (one (p && t) + cond (p && (not s && not t)) (one p) 0) ≡ one p
@@ -211,6 +200,7 @@ module _ (es : List TypeEntry) (rows : List Row) (a : Accepted es rows) where
       split true false true h = refl
       split true false false h = refl
       split false s t h = refl
+
       same : (q : Place) → occ q (starts es rows ++ (lates ++ keep (lead es rows) (places es rows))) ≡ occ q (places es rows)
       same q =
           let leads = keep (lead es rows) (places es rows) in

@@ -5,12 +5,9 @@ use mathlib.Core.Bool.{Bool, true, false, _||_}
 use mathlib.Core.Logic.{_⊎_, inl, inr, ⊎-elim}
 use Prim.Native.Nat.{ℕ, zero, suc, _<_}
 use native.Mathlib.Omega.{arith}
-use Rattle.std.proofs.shelf.Tests.{both-ways, cases-bool, cases-lt, cases-order, or-cases, or-left, or-right, or-from}
+use Rattle.std.proofs.shelf.Tests.{both-ways, cases-bool, cases-order, or-cases, or-left, or-right, or-from}
 use Rattle.derivation.proofs.TreeLaws.{not-so}
-
--- a number below the next one is below this one, or is it
-pub below-suc : (j k : ℕ) → j < suc k → (j < k) ⊎ (j ≡ k)
-below-suc j k h = ⊎-elim (λ s. inl s) (λ s. inr (omega arith)) (cases-lt j k)
+use Rattle.machine.proofs.Basics.{below-suc}
 
 -- a net: its places, the wires and their starts, the place after a place, the ends, and the places that move with a place
 pub record Net (P : Type 0) : Type 0 where
@@ -97,7 +94,6 @@ module _ {P : Type 0} (g : Net P) where
     module _ (at : ℕ → P) (left : P → Bool) (f : RunFact at left) (p : P) (on : Enabled at p) (after : ℕ → P)
         (moved : (v : ℕ) → v < g .wires → g .with p (at v) ≡ true → after v ≡ g .next (at v))
         (stays : (v : ℕ) → v < g .wires → g .with p (at v) ≡ false → after v ≡ at v) where
-
       -- where a token goes none has been yet
       pub fresh : (v : ℕ) → v < g .wires → g .with p (at v) ≡ true → Visited at left (g .next (at v)) → ⊥
       fresh v h e visited =
@@ -105,9 +101,9 @@ module _ {P : Type 0} (g : Net P) where
           ⊎-elim
           (λ (s : Started (g .next (at v))). l .from-start (at v) (s .0) (s .1) (f .stands v h) no-end (sym (s .2)))
           (λ (q : (q : P) × (left q ≡ true) × (g .next q ≡ g .next (at v))).
-              let on = f .goes-on (q .0) (q .1) in
-              let same = l .one-way (q .0) (at v) (on .0) (f .stands v h) (on .1) no-end (q .2) in
-              both-ways (left (at v)) (f .off v h) (subst (λ (x : P). left x ≡ true) same (q .1)))
+          let on = f .goes-on (q .0) (q .1) in
+          let same = l .one-way (q .0) (at v) (on .0) (f .stands v h) (on .1) no-end (q .2) in
+          both-ways (left (at v)) (f .off v h) (subst (λ (x : P). left x ≡ true) same (q .1)))
           (f .came (g .next (at v)) visited)
 
       -- a place visited before the move is so after it
@@ -144,9 +140,9 @@ module _ {P : Type 0} (g : Net P) where
       off-after : (v : ℕ) → v < g .wires → leaving left p (after v) ≡ false
       off-after v h = ⊎-elim
           (λ e. subst⁻¹ (λ (x : P). leaving left p x ≡ false) (moved v h e)
-              (or-from _ _
-              (not-so _ (λ y. fresh v h e (inl y)))
-              (not-so _ (λ y. fresh v h e (inr (on .1 (g .next (at v)) y))))))
+          (or-from _ _
+          (not-so _ (λ y. fresh v h e (inl y)))
+          (not-so _ (λ y. fresh v h e (inr (on .1 (g .next (at v)) y))))))
           (λ e. subst⁻¹ (λ (x : P). leaving left p x ≡ false) (stays v h e) (or-from _ _ (f .off v h) e))
           (cases-bool (g .with p (at v)))
 
@@ -154,15 +150,15 @@ module _ {P : Type 0} (g : Net P) where
       distinct-after : (v u : ℕ) → v < g .wires → u < g .wires → after v ≡ after u → v ≡ u
       distinct-after v u hv hu same = ⊎-elim
           (λ ev. ⊎-elim
-              (λ eu. f .distinct v u hv hu
-                  (l .one-way (at v) (at u) (f .stands v hv) (f .stands u hu) (l .with-end p (at v) ev) (l .with-end p (at u) eu)
-                  (sym (moved v hv ev) ∙ same ∙ moved u hu eu)))
-              (λ nu. absurd (fresh v hv ev (inr (u, hu, sym (stays u hu nu) ∙ sym same ∙ moved v hv ev))))
-              (cases-bool (g .with p (at u))))
+          (λ eu. f .distinct v u hv hu
+          (l .one-way (at v) (at u) (f .stands v hv) (f .stands u hu) (l .with-end p (at v) ev) (l .with-end p (at u) eu)
+          (sym (moved v hv ev) ∙ same ∙ moved u hu eu)))
+          (λ nu. absurd (fresh v hv ev (inr (u, hu, sym (stays u hu nu) ∙ sym same ∙ moved v hv ev))))
+          (cases-bool (g .with p (at u))))
           (λ nv. ⊎-elim
-              (λ eu. absurd (fresh u hu eu (inr (v, hv, sym (stays v hv nv) ∙ same ∙ moved u hu eu))))
-              (λ nu. f .distinct v u hv hu (sym (stays v hv nv) ∙ same ∙ stays u hu nu))
-              (cases-bool (g .with p (at u))))
+          (λ eu. absurd (fresh u hu eu (inr (v, hv, sym (stays v hv nv) ∙ same ∙ moved u hu eu))))
+          (λ nu. f .distinct v u hv hu (sym (stays v hv nv) ∙ same ∙ stays u hu nu))
+          (cases-bool (g .with p (at u))))
           (cases-bool (g .with p (at v)))
 
       -- behind a place that was left is a visited one
@@ -199,9 +195,9 @@ module _ {P : Type 0} (g : Net P) where
       pub comes-after : (v : ℕ) → v < g .wires → Comes v (at v) → Comes v (after v)
       comes-after v h (k, free, e) = ⊎-elim
           (λ y.
-              let here : (j : ℕ) → j ≡ k → g .end (way v j) ≡ false
-                       = λ j s. subst⁻¹ (λ (x : P). g .end x ≡ false) (ap (way v) s ∙ e) (l .with-end p (at v) y) in
-              (suc k, (λ j b. ⊎-elim (free j) (here j) (below-suc j k b)), ap (g .next) e ∙ sym (moved v h y)))
+          let here : (j : ℕ) → j ≡ k → g .end (way v j) ≡ false
+          = λ j s. subst⁻¹ (λ (x : P). g .end x ≡ false) (ap (way v) s ∙ e) (l .with-end p (at v) y) in
+          (suc k, (λ j b. ⊎-elim (free j) (here j) (below-suc j k b)), ap (g .next) e ∙ sym (moved v h y)))
           (λ y. (k, free, e ∙ sym (stays v h y)))
           (cases-bool (g .with p (at v)))
 
@@ -217,20 +213,23 @@ module _ {P : Type 0} (g : Net P) where
       stuck-visited = all (Visited at left) (f .begun) (λ p here e mates. ⊎-elim
           (λ y. f .goes-on p y .2)
           (λ n.
-              let held : (q : P) → g .with p q ≡ true → Held at q
-                       = λ q y. ⊎-elim (λ z. absurd (both-ways (left p) n (f .whole q p (l .with-sym p q y) z))) (λ h. h) (mates q y) in
-              let (w, h, s) = held p (l .with-self p e) in
-              absurd (stuck w h (subst⁻¹ (λ (x : P). Enabled at x) s (e, held))))
+          let held : (q : P) → g .with p q ≡ true → Held at q
+          = λ q y. ⊎-elim (λ z. absurd (both-ways (left p) n (f .whole q p (l .with-sym p q y) z))) (λ h. h) (mates q y) in
+          let (w, h, s) = held p (l .with-self p e) in
+          absurd (stuck w h (subst⁻¹ (λ (x : P). Enabled at x) s (e, held))))
           (cases-bool (left p)))
 
       -- every token is at an end
       pub stuck-home : (w : ℕ) → w < g .wires → g .end (at w) ≡ true
       stuck-home w h = ⊎-elim
           (λ e. e)
-          (λ n. absurd (stuck w h (n, (λ q y. ⊎-elim
-              (λ z. absurd (both-ways (left (at w)) (f .off w h) (f .whole q (at w) (l .with-sym (at w) q y) z)))
-              (λ x. x)
-              (stuck-visited q (l .with-here (at w) q (f .stands w h) y))))))
+          (λ n. absurd (stuck w h (
+            n,
+            (λ q y. ⊎-elim
+                (λ z. absurd (both-ways (left (at w)) (f .off w h) (f .whole q (at w) (l .with-sym (at w) q y) z)))
+                (λ x. x)
+                (stuck-visited q (l .with-here (at w) q (f .stands w h) y))),
+          )))
           (cases-bool (g .end (at w)))
 
     -- the first places of a way are places
@@ -261,6 +260,6 @@ module _ {P : Type 0} (g : Net P) where
     one-end w p q (k, a, d) (j, b, e) ends-p ends-q = ⊎-elim
         (λ s. sym d ∙ ap (way w) s ∙ e)
         (λ s. ⊎-elim
-            (λ s. absurd (both-ways (g .end p) (subst (λ (x : P). g .end x ≡ false) d (b k s)) ends-p))
-            (λ s. absurd (both-ways (g .end q) (subst (λ (x : P). g .end x ≡ false) e (a j s)) ends-q)) s)
+        (λ s. absurd (both-ways (g .end p) (subst (λ (x : P). g .end x ≡ false) d (b k s)) ends-p))
+        (λ s. absurd (both-ways (g .end q) (subst (λ (x : P). g .end x ≡ false) e (a j s)) ends-q)) s)
         (cases-order k j)

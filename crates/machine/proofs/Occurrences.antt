@@ -132,6 +132,8 @@ fewer ps qs once h = omega (arith, meets-least ps qs h, meets-swap ps qs, meets-
 -- lists of the same different places are of the same length
 pub as-many : (ps qs : List Place) → ((q : Place) → occ q ps ≤ 1) → ((q : Place) → occ q ps ≡ occ q qs) → length ps ≡ length qs
 as-many ps qs once same =
-    omega (arith,
-    fewer ps qs once (λ q l. omega (arith, same q)),
-    fewer qs ps (λ q. omega (arith, once q, same q)) (λ q l. omega (arith, same q)))
+    omega (
+      arith,
+      fewer ps qs once (λ q l. omega (arith, same q)),
+      fewer qs ps (λ q. omega (arith, once q, same q)) (λ q l. omega (arith, same q)),
+    )

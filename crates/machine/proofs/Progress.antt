@@ -1,19 +1,16 @@
 -- The machine as a net of tokens. After any moves the tokens stand on different places that none has left (run-fact), a place that a
 -- token enters is new (move-fresh), and where no wire can move all places were visited and all tokens are at ends (all-visited, all-home);
 -- so some wire can move exactly while some token is not at an end (progress).
-use mathlib.Core.Path.{_≡_, refl, sym, _∙_, ap, subst, subst⁻¹}
+use mathlib.Core.Path.{_≡_, sym, _∙_, ap, subst, subst⁻¹}
 use mathlib.Core.Bool.{Bool, true, false, not, cond, _&&_}
 use mathlib.Core.Logic.{_⊎_, inl, inr, ⊎-elim}
 use mathlib.Core.List.{List}
-use Prim.Native.Nat.{ℕ, zero, suc, _<_}
-use native.Mathlib.Omega.{arith}
+use Prim.Native.Nat.{ℕ, _<_}
 use lib.Dec.{ltb}
 use lib.ListN.{length, getD}
-use Rattle.std.specs.Options.{valueOr}
-use Rattle.std.specs.declared.option.Option.{Option}
-use Rattle.std.specs.declared.option.Option.the-variants.{Some, None}
+use Rattle.std.specs.declared.option.Option.the-variants.{Some}
 use Rattle.std.proofs.shelf.Lists.{getD-map, length-map}
-use Rattle.std.proofs.shelf.Tests.{both-ways, cases-bool, and-parts, and-from, and-left, and-cases, not-true, not-from-true, not-from-false, ltb-true, cond-true, cond-false}
+use Rattle.std.proofs.shelf.Tests.{both-ways, and-parts, and-from, and-left, and-cases, not-true, not-from-true, not-from-false, ltb-true, cond-true, cond-false}
 use Rattle.derivation.specs.declared.types.TypeEntry.{TypeEntry}
 use Rattle.derivation.specs.declared.rows.Row.{Row}
 use Rattle.derivation.specs.declared.rows.Place.{Place}
@@ -23,10 +20,9 @@ use Rattle.machine.specs.Ports.{next, prev, isPlace, isEnd, starts}
 use Rattle.machine.specs.Tokens.{Fired, Moved, noPlace, among, together, movable, advance, advanced, firedAt, move}
 use Rattle.machine.specs.Runs.{Reached, begun, moved}
 use Rattle.machine.specs.Laws.{PortLaws, StartLaws, Saturates, Home, Progress}
-use Rattle.machine.proofs.Marked.{below-suc, Net, Marked, Enabled, leaving, Visited, RunFact, Closes}
-use Rattle.machine.proofs.Marked.{start-fact, fresh, visited-on, visited-back, moved-fact, visited-here, stuck-visited, stuck-home}
-use Rattle.machine.proofs.Ways.{among-at, among-here, all-stand-from, all-stand-to}
-use Rattle.machine.proofs.Ways.{Mates, mates-from, mates-to, mates-self, mates-sym, mates-trans, seat-place, seat-no-end}
+use Rattle.machine.proofs.Basics.{some-below, none-some, same-some, some-under, value-some}
+use Rattle.machine.proofs.Ways.{among-at, among-here, all-stand-from, all-stand-to, Mates, mates-from, mates-to, mates-self, mates-sym, mates-trans, seat-place, seat-no-end}
+use Rattle.machine.proofs.Marked.{Net, Marked, Enabled, leaving, Visited, RunFact, Closes, start-fact, fresh, visited-on, visited-back, moved-fact, visited-here, stuck-visited, stuck-home}
 
 -- the machine's places and moves as a net; places move together where none is an end
 abbrev pub machine : List TypeEntry → List Row → Net Place
@@ -43,19 +39,6 @@ machine es rows = record {
 abbrev pub placed : List Place → ℕ → Place
 placed tokens w = getD tokens w noPlace
 
--- what is found under a test passed it
-some-under : {A : Type 0} (b : Bool) (o : Option A) (x : A) → cond b o None ≡ Some x → (b ≡ true) × (o ≡ Some x)
-some-under true o x e = (refl, e)
-some-under false o x e = let z : _≡_ {A = ℕ} 0 1 = cc in absurd (omega arith)
-
--- equal options that are not empty have equal values
-same-some : {A : Type 0} {x y : A} → _≡_ {A = Option A} (Some x) (Some y) → x ≡ y
-same-some e = cc
-
--- an option is not both empty and not
-some-none : {A : Type 0} {x : A} → _≡_ {A = Option A} (Some x) None → ⊥
-some-none e = let z : _≡_ {A = ℕ} 0 1 = cc in omega arith
-
 module _ (es : List TypeEntry) (rows : List Row) where
   -- what a move is: w's token can move, and all that move with it go on
   pub move-facts : (tokens : List Place) (w : ℕ) (m : Moved) → move es rows tokens w ≡ Some m
@@ -70,10 +53,12 @@ module _ (es : List TypeEntry) (rows : List Row) where
   -- a token can move exactly if it is enabled
   pub enabled-from : (tokens : List Place) (p : Place) → length tokens ≡ wires es rows → movable es rows tokens p ≡ true → Enabled (machine es rows) (placed tokens) p
   enabled-from tokens p size e =
-      let (no-end, all) = and-parts (not (isEnd es rows p)) _ e in
-      (not-true _ no-end, λ q m.
-          let (w, h, s) = among-at q tokens (all-stand-from tokens (together es rows p) all q (and-parts _ (among q (together es rows p)) m .1)) in
-          (w, subst (λ n. w < n) size h, s))
+      let (no-end, all) = and-parts (not (isEnd es rows p)) _ e in (
+        not-true _ no-end,
+        λ q m.
+            let (w, h, s) = among-at q tokens (all-stand-from tokens (together es rows p) all q (and-parts _ (among q (together es rows p)) m .1)) in
+            (w, subst (λ n. w < n) size h, s),
+      )
 
   pub enabled-to : (tokens : List Place) (p : Place) → length tokens ≡ wires es rows → Enabled (machine es rows) (placed tokens) p → movable es rows tokens p ≡ true
   enabled-to tokens p size (no-end, held) =
@@ -82,7 +67,7 @@ module _ (es : List TypeEntry) (rows : List Row) where
       (all-stand-to tokens (together es rows p) (λ q m. let (w, h, s) = held q (and-from _ _ free m) in among-here q tokens w (subst⁻¹ (λ n. w < n) size h) s))
 
   -- the tokens of a move, one by one
-  advanced-at : (moving tokens : List Place) (v : ℕ) → v < length tokens
+  pub advanced-at : (moving tokens : List Place) (v : ℕ) → v < length tokens
       → placed (advanced es rows moving tokens) v ≡ cond (among (placed tokens v) moving) (advance es rows (placed tokens v)) (placed tokens v)
   advanced-at moving tokens v h = getD-map (λ t. cond (among t moving) (advance es rows t) t) tokens v noPlace noPlace h
 
@@ -104,7 +89,7 @@ module _ (es : List TypeEntry) (rows : List Row) where
       let on = enabled-from es rows tokens p size can in
       let inside : (v : ℕ) → v < wires es rows → v < length tokens = λ v l. subst⁻¹ (λ n. v < n) size l in
       let one : (v : ℕ) → v < wires es rows → placed (m .tokens) v ≡ cond (among (placed tokens v) moving) (advance es rows (placed tokens v)) (placed tokens v)
-              = λ v l. ap (λ (ts : List Place). placed ts v) after ∙ advanced-at es rows moving tokens v (inside v l) in
+      = λ v l. ap (λ (ts : List Place). placed ts v) after ∙ advanced-at es rows moving tokens v (inside v l) in
       record {
         wire = subst (λ n. w < n) size h;
         size = ap length after ∙ length-map tokens _ ∙ size;
@@ -120,23 +105,7 @@ module _ (es : List TypeEntry) (rows : List Row) where
   pub with-to : (p q : Place) → isEnd es rows p ≡ false → Mates es rows p q → machine es rows .with p q ≡ true
   with-to p q e m = and-from _ _ (not-from-false _ e) (mates-to es rows p q m)
 
--- some number below n passes a test, or none does
-pub some-below : (t : ℕ → Bool) (n : ℕ) → ((w : ℕ) × (w < n) × (t w ≡ true)) ⊎ ((w : ℕ) → w < n → t w ≡ false)
-some-below t zero = inr (λ w h. absurd (omega arith))
-some-below t (suc n) = ⊎-elim
-    (λ e. inl (n, omega arith, e))
-    (λ e. ⊎-elim
-        (λ (w, h, f). inl (w, omega arith, f))
-        (λ none. inr (λ w h. ⊎-elim (λ l. none w l) (λ s. subst⁻¹ (λ x. t x ≡ false) s e) (below-suc w n h)))
-        (some-below t n))
-    (cases-bool (t n))
-
--- an option that is not empty has its value
-value-some : {A : Type 0} (o : Option A) (d : A) → (o ≡ None → ⊥) → o ≡ Some (valueOr o d)
-value-some (Some x) d h = refl
-value-some None d h = absurd (h refl)
-
-module _ (es : List TypeEntry) (rows : List Row) (a : Accepted es rows) (ports : PortLaws es rows) (begin : StartLaws es rows) where
+module _ (es : List TypeEntry) (rows : List Row) (ports : PortLaws es rows) where
   -- the place after one that is no end
   pub next-advance : (p : Place) → isPlace es rows p ≡ true → isEnd es rows p ≡ false → next es rows p ≡ Some (advance es rows p)
   next-advance p h e = value-some (next es rows p) p (λ none. both-ways (isEnd es rows p) e (ports .to-end p h none))
@@ -145,8 +114,9 @@ module _ (es : List TypeEntry) (rows : List Row) (a : Accepted es rows) (ports :
   pub prev-advance : (p : Place) → isPlace es rows p ≡ true → isEnd es rows p ≡ false → prev es rows (advance es rows p) ≡ Some p
   prev-advance p h e = ports .forth p (advance es rows p) h (next-advance p h e) .1
 
+module _ (es : List TypeEntry) (rows : List Row) (a : Accepted es rows) where
   -- the mates of a place that is no end are none, and those of a place are places
-  mates-no-end : (p q : Place) → isEnd es rows p ≡ false → Mates es rows p q → isEnd es rows q ≡ false
+  pub mates-no-end : (p q : Place) → isEnd es rows p ≡ false → Mates es rows p q → isEnd es rows q ≡ false
   mates-no-end p q e (inl (s, t, r)) = seat-no-end es rows a q t
   mates-no-end p q e (inr (s, f)) = subst (λ (x : Place). isEnd es rows x ≡ false) f e
 
@@ -154,21 +124,22 @@ module _ (es : List TypeEntry) (rows : List Row) (a : Accepted es rows) (ports :
   mates-here p q h (inl (s, t, r)) = seat-place es rows a q t
   mates-here p q h (inr (s, f)) = subst (λ (x : Place). isPlace es rows x ≡ true) f h
 
+module _ (es : List TypeEntry) (rows : List Row) (a : Accepted es rows) (ports : PortLaws es rows) (begin : StartLaws es rows) where
   -- the machine is a marked net
   pub marked : Marked (machine es rows)
   marked = record {
     apart = begin .distinct;
     start-here = λ w h. begin .each w h .0;
-    next-here = λ p h e. ports .forth p (advance es rows p) h (next-advance p h e) .0;
-    one-way = λ p q hp hq ep eq same. same-some (sym (prev-advance p hp ep) ∙ ap (prev es rows) same ∙ prev-advance q hq eq);
+    next-here = λ p h e. ports .forth p (advance es rows p) h (next-advance es rows ports p h e) .0;
+    one-way = λ p q hp hq ep eq same. same-some (sym (prev-advance es rows ports p hp ep) ∙ ap (prev es rows) same ∙ prev-advance es rows ports q hq eq);
     from-start = λ p w h hp e same.
         let (here, start) = begin .each w h in
-        some-none (sym (prev-advance p hp e) ∙ ap (prev es rows) same ∙ ports .at-start _ here start);
+        none-some (sym (ports .at-start _ here start) ∙ ap (prev es rows) (sym same) ∙ prev-advance es rows ports p hp e);
     with-self = λ p e. with-to es rows p p e (mates-self es rows p);
-    with-sym = λ p q e. let (n, m) = with-from es rows p q e in with-to es rows q p (mates-no-end p q n m) (mates-sym es rows p q m);
+    with-sym = λ p q e. let (n, m) = with-from es rows p q e in with-to es rows q p (mates-no-end es rows a p q n m) (mates-sym es rows p q m);
     with-trans = λ p q r e f. let (n, m) = with-from es rows p q e in with-to es rows p r n (mates-trans es rows p q r m (with-from es rows q r f .1));
-    with-end = λ p q e. let (n, m) = with-from es rows p q e in mates-no-end p q n m;
-    with-here = λ p q h e. mates-here p q h (with-from es rows p q e .1);
+    with-end = λ p q e. let (n, m) = with-from es rows p q e in mates-no-end es rows a p q n m;
+    with-here = λ p q h e. mates-here es rows a p q h (with-from es rows p q e .1);
   }
 
 -- the places that the tokens have left, by the moves that were made
@@ -260,9 +231,10 @@ module _ (es : List TypeEntry) (rows : List Row) (a : Accepted es rows) (ports :
 
     -- some wire can move exactly while some token is not at an end
     pub progress : Progress es rows
-    progress tokens n fired r =
-        ((λ (w, h, e). (w, h, not-true _ (and-parts (not (isEnd es rows (placed tokens w))) _ e .0)))
-        , (λ (w, h, e). ⊎-elim
-            (λ f. f)
-            (λ none. absurd (both-ways _ e (all-home r none w h)))
-            (some-below (λ v. movable es rows tokens (placed tokens v)) (wires es rows))))
+    progress tokens n fired r = (
+      (λ (w, h, e). (w, h, not-true _ (and-parts (not (isEnd es rows (placed tokens w))) _ e .0))),
+      (λ (w, h, e). ⊎-elim
+          (λ f. f)
+          (λ none. absurd (both-ways _ e (all-home r none w h)))
+          (some-below (λ v. movable es rows tokens (placed tokens v)) (wires es rows))),
+    )

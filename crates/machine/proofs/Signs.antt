@@ -1,12 +1,14 @@
--- What each rule says of the environment and the type of its row, and the signs of atoms in types.
+-- Rules by their kind, what each says of the environment and the type of its row, and the signs of atoms in types.
 use mathlib.Core.Path.{_≡_, refl, _∙_, ap, subst}
 use mathlib.Core.Bool.{true, false, not, _||_, _&&_}
+use mathlib.Core.Logic.{_⊎_, inl, inr}
 use mathlib.Core.List.{List, map}
 use Prim.Native.Nat.{ℕ, zero, suc, _+_, _-_, _<_}
+use native.Mathlib.Nat.{add-sub-cancel-left}
 use native.Mathlib.Omega.{arith}
 use lib.Dec.{eqb, ltb}
 use lib.ListN.{length, getD}
-use Rattle.std.proofs.shelf.Tests.{cond-true, cond-false, cond-both, lt-ltb, le-ltb}
+use Rattle.std.proofs.shelf.Tests.{both-ways, cond-true, cond-both, lt-ltb, le-ltb}
 use Rattle.derivation.specs.declared.gate.Gate.{Gate as GateName}
 use Rattle.derivation.specs.declared.gate.Gate.the-variants.{H, S, T, X, Z, Cx, Cz, Ccx}
 use Rattle.derivation.specs.declared.types.TypeEntry.{TypeEntry}
@@ -17,10 +19,31 @@ use Rattle.derivation.specs.Sets.{has}
 use Rattle.derivation.specs.Gates.{arity}
 use Rattle.derivation.specs.Trees.{Tree, qubit, arrow, pair, atoms, positive, power}
 use Rattle.derivation.specs.Rows.{premises}
-use Rattle.derivation.specs.Judgements.{Judgement, _⊢_, Apart, ruleAt, treeAt, judged}
-use Rattle.derivation.specs.Judgements.{Infers, variable, zero-bit, one-bit, gate, abstraction, pair-abstraction, application, pairing}
+use Rattle.derivation.specs.Judgements.{Judgement, _⊢_, Apart, ruleAt, treeAt, judged, Infers, variable, zero-bit, one-bit, gate, abstraction, pair-abstraction, application, pairing}
+use Rattle.derivation.specs.Places.{isBit, isGate}
 use Rattle.derivation.specs.Accepted.{Accepted}
 use Rattle.derivation.proofs.SetLaws.{has-none, has-only, has-union, has-without}
+
+-- the rule of a zero or one row, and that of a gate
+pub bit-of : (rule : Rule) → isBit rule ≡ true → (rule ≡ Zero) ⊎ (rule ≡ One)
+bit-of Variable e = absurd (both-ways _ refl e)
+bit-of Zero e = inl refl
+bit-of One e = inr refl
+bit-of (Gate g) e = absurd (both-ways _ refl e)
+bit-of (Lambda p x) e = absurd (both-ways _ refl e)
+bit-of (PairLambda p x y) e = absurd (both-ways _ refl e)
+bit-of (Apply f a) e = absurd (both-ways _ refl e)
+bit-of (Pair l r) e = absurd (both-ways _ refl e)
+
+pub gate-of : (rule : Rule) → isGate rule ≡ true → (g : GateName) × (rule ≡ Gate g)
+gate-of Variable e = absurd (both-ways _ refl e)
+gate-of Zero e = absurd (both-ways _ refl e)
+gate-of One e = absurd (both-ways _ refl e)
+gate-of (Gate g) e = (g, refl)
+gate-of (Lambda p x) e = absurd (both-ways _ refl e)
+gate-of (PairLambda p x y) e = absurd (both-ways _ refl e)
+gate-of (Apply f a) e = absurd (both-ways _ refl e)
+gate-of (Pair l r) e = absurd (both-ways _ refl e)
 
 -- the judgement of premise i
 abbrev pub premise : List Judgement → ℕ → Judgement
@@ -76,23 +99,33 @@ pub rule-says : (es : List TypeEntry) (rows : List Row) → Accepted es rows →
     → Says (treeAt es rows) r k (map (judged es rows) (premises k)) (judged es rows r)
 rule-says es rows a r k h e = subst (λ k. Says (treeAt es rows) r k (map (judged es rows) (premises k)) (judged es rows r)) e (said (a .follows r h))
 
--- atoms of the left and the right part of an arrow, and of a pair
+-- an atom of the left part of an arrow or a pair
+pub positive-argument : (a c : Tree) (i : ℕ) → i < atoms a → positive (arrow a c) i ≡ not (positive a i)
+positive-argument a c i h = cond-true _ _ _ (lt-ltb i (atoms a) h)
+
+pub positive-first : (a c : Tree) (i : ℕ) → i < atoms a → positive (pair a c) i ≡ positive a i
+positive-first a c i h = cond-true _ _ _ (lt-ltb i (atoms a) h)
+
+-- an atom of the right part
+pub positive-result : (a c : Tree) (i : ℕ) → positive (arrow a c) (atoms a + i) ≡ positive c i
+positive-result a c i = rw (le-ltb (atoms a + i) (atoms a) (omega arith), add-sub-cancel-left (atoms a) i)
+
+pub positive-second : (a c : Tree) (i : ℕ) → positive (pair a c) (atoms a + i) ≡ positive c i
+positive-second a c i = rw (le-ltb (atoms a + i) (atoms a) (omega arith), add-sub-cancel-left (atoms a) i)
+
+-- the same of a type that is an arrow or a pair
 module _ (t s c : Tree) (i : ℕ) where
   pub arrow-left : t ≡ arrow s c → i < atoms s → positive t i ≡ not (positive s i)
-  arrow-left e h = ap (λ u. positive u i) e ∙ cond-true _ _ _ (lt-ltb i (atoms s) h)
+  arrow-left e h = ap (λ u. positive u i) e ∙ positive-argument s c i h
 
   pub pair-left : t ≡ pair s c → i < atoms s → positive t i ≡ positive s i
-  pair-left e h = ap (λ u. positive u i) e ∙ cond-true _ _ _ (lt-ltb i (atoms s) h)
+  pair-left e h = ap (λ u. positive u i) e ∙ positive-first s c i h
 
   pub arrow-right : t ≡ arrow s c → (j : ℕ) → i ≡ atoms s + j → positive t i ≡ positive c j
-  arrow-right e j h =
-      let k : i - atoms s ≡ j = omega arith in
-      ap (λ u. positive u i) e ∙ cond-false _ _ _ (le-ltb i (atoms s) (omega arith)) ∙ ap (positive c) k
+  arrow-right e j h = ap (λ u. positive u i) e ∙ ap (positive (arrow s c)) h ∙ positive-result s c j
 
   pub pair-right : t ≡ pair s c → (j : ℕ) → i ≡ atoms s + j → positive t i ≡ positive c j
-  pair-right e j h =
-      let k : i - atoms s ≡ j = omega arith in
-      ap (λ u. positive u i) e ∙ cond-false _ _ _ (le-ltb i (atoms s) (omega arith)) ∙ ap (positive c) k
+  pair-right e j h = ap (λ u. positive u i) e ∙ ap (positive (pair s c)) h ∙ positive-second s c j
 
 -- all of some qubits are positive
 pub power-positive : (n i : ℕ) → positive (power n) i ≡ true

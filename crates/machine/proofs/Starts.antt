@@ -10,9 +10,9 @@ use lib.Dec.{eqb, ltb}
 use lib.ListN.{length, getD}
 use Rattle.std.specs.Joined.{joined}
 use Rattle.std.proofs.shelf.Lists.{length-append}
-use Rattle.std.proofs.shelf.Tests.{and-parts, and-from, eq-eqb, ne-eqb, cases-bool, cases-eq, cases-lt, both-ways, lt-ltb, le-ltb}
+use Rattle.std.proofs.shelf.Tests.{and-parts, and-from, eq-eqb, ne-eqb, cases-bool, cases-eq, cases-lt, lt-ltb, le-ltb}
 use Rattle.derivation.specs.declared.types.TypeEntry.{TypeEntry}
-use Rattle.derivation.specs.declared.rows.Rule.{Rule}
+use Rattle.derivation.specs.declared.rows.Rule.the-variants.{Zero, One}
 use Rattle.derivation.specs.declared.rows.Row.{Row}
 use Rattle.derivation.specs.declared.rows.Part.{Part}
 use Rattle.derivation.specs.declared.rows.Part.the-variants.{Ty, Variable as Var}
@@ -20,17 +20,16 @@ use Rattle.derivation.specs.declared.rows.Place.{Place}
 use Rattle.derivation.specs.Sets.{has}
 use Rattle.derivation.specs.Trees.{Tree, qubit, atoms}
 use Rattle.derivation.specs.Rows.{noRow}
-use Rattle.derivation.specs.Judgements.{Judgement, ruleAt, envAt, treeAt}
-use Rattle.derivation.specs.Judgements.{Infers, variable, zero-bit, one-bit, gate, abstraction, pair-abstraction, application, pairing}
+use Rattle.derivation.specs.Judgements.{ruleAt, envAt, treeAt}
 use Rattle.derivation.specs.Places.{numbers, placesIn, placesAt, places, negative, given, isBit, bits, wires}
 use Rattle.derivation.specs.Weights.{weight, sumTo}
 use Rattle.derivation.specs.Accepted.{Accepted}
-use Rattle.derivation.proofs.SetLaws.{has-none}
 use Rattle.derivation.proofs.PlaceLaws.{sumTo-same, weight-sum, size-joined, size-places-at, length-keep-append, length-keep-map}
 use Rattle.derivation.proofs.RowLaws.{env-low}
 use Rattle.machine.specs.Ports.{at, width, partWidth, isPlace, last, isEnd, isStart, bitPlaces, starts, ends}
 use Rattle.machine.specs.Tokens.{samePart, samePlace, noPlace}
 use Rattle.machine.specs.Laws.{StartLaws}
+use Rattle.machine.proofs.Signs.{bit-of, Closed, rule-says}
 use Rattle.machine.proofs.Occurrences.{one, one-small, cond-zero, occ, keep-cons, occ-keep, occ-at, occ-some, occ-distinct}
 
 -- a sum of nothing
@@ -88,6 +87,7 @@ weight-at m z n b low =
     inner true e c = refl
     inner false true c = refl
     inner false false c = refl
+
     go : (h : Bool) → has m z ≡ h → one (ltb z n && (h && b z)) ≡ one (h && b z)
     go true e = rw (lt-ltb z n (low e)) refl
     go false e = ⊎-elim (λ f. rw f refl) (λ f. rw f refl) (cases-bool (ltb z n))
@@ -95,18 +95,6 @@ weight-at m z n b low =
 -- a set's sum of nothing
 weight-zero : (m n : ℕ) → weight m (λ x. 0) n ≡ 0
 weight-zero m n = weight-sum m (λ x. 0) n ∙ sum-none _ n (λ x l. cond-zero (has m x))
-
--- a zero or one row is a qubit, and has no variables
-bit-infers : {of : ℕ → Tree} {k : ℕ} {rule : Rule} {js : List Judgement} {j : Judgement} → Infers of k rule js j
-    → isBit rule ≡ true → (j .type ≡ qubit) × (j .env ≡ 0)
-bit-infers variable e = absurd (both-ways _ refl e)
-bit-infers zero-bit e = (refl, refl)
-bit-infers one-bit e = (refl, refl)
-bit-infers gate e = absurd (both-ways _ refl e)
-bit-infers (abstraction h) e = absurd (both-ways _ refl e)
-bit-infers (pair-abstraction x y d) e = absurd (both-ways _ refl e)
-bit-infers (application h) e = absurd (both-ways _ refl e)
-bit-infers (pairing h) e = absurd (both-ways _ refl e)
 
 module _ (es : List TypeEntry) (rows : List Row) (a : Accepted es rows) where
   -- the places of a row
@@ -120,6 +108,7 @@ module _ (es : List TypeEntry) (rows : List Row) (a : Accepted es rows) where
       below : (w i : ℕ) (b : Bool) → one (b && ltb i w) ≡ one (ltb i (cond b w 0))
       below w i true = refl
       below w i false = rw (le-ltb i 0 (omega arith)) refl
+
       go : (row : Bool) (part : Part)
           → weight (envAt rows r) (λ x. one (row && (samePart (Var (record { 0 = x })) part && ltb (q .atom .0) (atoms (treeAt es rows x))))) (length rows)
           + one (row && (samePart Ty part && ltb (q .atom .0) (atoms (treeAt es rows r))))
@@ -177,9 +166,9 @@ eqb-first i =
     ⊎-elim (λ (e : 0 ≡ i). eq-eqb 0 i e ∙ sym (lt-ltb i 1 (omega arith))) (λ ne. ne-eqb 0 i ne ∙ sym (le-ltb i 1 (omega arith))) (cases-eq 0 i)
 
 module _ (es : List TypeEntry) (rows : List Row) (a : Accepted es rows) where
-  -- the type and the variables of a zero or one row
-  bit-row : (r : ℕ) → r < length rows → isBit (ruleAt rows r) ≡ true → (treeAt es rows r ≡ qubit) × (envAt rows r ≡ 0)
-  bit-row r l e = bit-infers (a .follows r l) e
+  -- a zero or one row is a qubit, and has no variables
+  bit-row : (r : ℕ) → r < length rows → isBit (ruleAt rows r) ≡ true → (treeAt es rows r ≡ qubit) × Closed (envAt rows r)
+  bit-row r l e = ⊎-elim (rule-says es rows a r Zero l) (rule-says es rows a r One l) (bit-of (ruleAt rows r) e)
 
   -- the places of zero and one rows are their first atoms
   occ-firsts : (q : Place)
@@ -206,13 +195,15 @@ module _ (es : List TypeEntry) (rows : List Row) (a : Accepted es rows) where
     where
       r : ℕ
       r = q .row .0
+
       i : ℕ
       i = q .atom .0
+
       inside : r < length rows → (b : Bool) → isBit (ruleAt rows r) ≡ b → (part : Part)
           → one (b && (samePart Ty part && eqb 0 i))
           ≡ cond (negative es rows (record { row = q .row; part = part; atom = q .atom })) 0 (one (ltb i (partWidth es rows r part) && b))
       inside l true e Ty = rw (bit-row r l e .0, eqb-first i) (ap one (sym (and-true _)))
-      inside l true e (Var z) = rw (bit-row r l e .1, has-none (z .0), le-ltb i 0 (omega arith)) (sym (cond-zero _))
+      inside l true e (Var z) = rw (bit-row r l e .1 (z .0), le-ltb i 0 (omega arith)) (sym (cond-zero _))
       inside l false e part = rw (and-false (ltb i (partWidth es rows r part))) (sym (cond-zero _))
 
   -- each start stands among the starts once, and nothing else does

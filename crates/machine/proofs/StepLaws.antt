@@ -1,25 +1,21 @@
 -- The machine makes exactly the steps of the relation.
 use mathlib.Core.Path.{_≡_, refl, sym, _∙_, ap, subst}
-use mathlib.Core.Bool.{Bool, true, false, not, cond}
+use mathlib.Core.Bool.{true, false, not, cond}
 use mathlib.Core.Logic.{⊎-elim}
 use mathlib.Core.List.{List, [], _∷_, map}
 use Prim.Native.Nat.{ℕ, zero, suc, _+_, _<_}
 use native.Mathlib.Nat.{zero-add, add-zero}
 use native.Mathlib.Omega.{arith}
-use lib.Dec.{eqb, ltb}
 use lib.ListN.{length, getD, set, length-map, length-set}
 use Rattle.std.specs.Options.{valueOr}
 use Rattle.std.specs.declared.option.Option.{Option}
 use Rattle.std.specs.declared.option.Option.the-variants.{Some, None}
 use Rattle.std.proofs.shelf.Lists.{ext-getD, getD-map, getD-set-same, getD-set-other}
-use Rattle.std.proofs.shelf.Tests.{and-parts, and-from, or-cases, or-left, or-right, not-true, not-from-false, both-ways, cond-true, cond-false, cond-both}
-use Rattle.std.proofs.shelf.Tests.{cases-bool, eqb-true, eq-eqb, ltb-true, lt-ltb}
+use Rattle.std.proofs.shelf.Tests.{and-parts, and-from, or-cases, not-true, not-from-false, both-ways, cond-true, cond-false, cases-bool, lt-ltb}
 use Rattle.derivation.specs.declared.gate.Gate.{Gate as GateName}
 use Rattle.derivation.specs.declared.types.TypeEntry.{TypeEntry}
 use Rattle.derivation.specs.declared.rows.Rule.the-variants.{Gate}
 use Rattle.derivation.specs.declared.rows.Row.{Row}
-use Rattle.derivation.specs.declared.rows.Part.{Part}
-use Rattle.derivation.specs.declared.rows.Part.the-variants.{Ty, Variable as Var}
 use Rattle.derivation.specs.declared.rows.Place.{Place}
 use Rattle.derivation.specs.Gates.{arity}
 use Rattle.derivation.specs.Judgements.{ruleAt}
@@ -27,69 +23,15 @@ use Rattle.derivation.specs.Places.{numbers}
 use Rattle.derivation.specs.Accepted.{Accepted}
 use Rattle.derivation.proofs.TreeLaws.{not-so}
 use Rattle.derivation.proofs.PlaceLaws.{length-numbers}
-use Rattle.machine.specs.Ports.{at, listed, acrossOwn, next, isPlace, isEnd}
-use Rattle.machine.specs.Tokens.{Fired, Moved, noPlace, samePart, samePlace, among, wireAt, allStand, seats, isSeat, together, movable, advance, advanced, gateFired, firedAt, move}
+use Rattle.machine.specs.Ports.{at, listed, next, isPlace, isEnd}
+use Rattle.machine.specs.Tokens.{Fired, Moved, noPlace, samePlace, among, wireAt, allStand, isSeat, together, movable, advance, advanced, gateFired, firedAt, move}
 use Rattle.machine.specs.Steps.{Step}
 use Rattle.machine.specs.Runs.{Reached}
 use Rattle.machine.specs.Laws.{PortLaws, MovesAreSteps}
-use Rattle.machine.proofs.Joined.{none-some, place, place-parts, listed-at, at-listed, seat-gate, gate-negative, next-joins, joins-next}
-
--- parts that test equal are equal
-same-part : (x y : Part) → samePart x y ≡ true → x ≡ y
-same-part Ty Ty h = refl
-same-part Ty (Var y) h = absurd (both-ways false refl h)
-same-part (Var x) Ty h = absurd (both-ways false refl h)
-same-part (Var x) (Var y) h = ap (λ n. Var (record { 0 = n })) (eqb-true _ _ h)
-
--- a part tests equal to itself
-part-same : (x : Part) → samePart x x ≡ true
-part-same Ty = refl
-part-same (Var x) = eq-eqb (x .0) _ refl
-
--- places that test equal are equal
-pub same-place : (p q : Place) → samePlace p q ≡ true → p ≡ q
-same-place p q h =
-    let (r, k) = and-parts (eqb (p .row .0) (q .row .0)) _ h in
-    let (x, i) = and-parts (samePart (p .part) (q .part)) _ k in
-    let er = eqb-true _ _ r in
-    let ex = same-part _ _ x in
-    let ei = eqb-true _ _ i in
-    λ t. record { row = record { 0 = er t }; part = ex t; atom = record { 0 = ei t } }
-
--- a place tests equal to itself
-pub place-same : (p : Place) → samePlace p p ≡ true
-place-same p = and-from _ _ (eq-eqb (p .row .0) _ refl) (and-from _ _ (part-same (p .part)) (eq-eqb (p .atom .0) _ refl))
-
--- a place among others stands at some index
-among-at : (q : Place) (ps : List Place) → among q ps ≡ true → (i : ℕ) × (i < length ps) × (getD ps i noPlace ≡ q)
-among-at q [] h = absurd (both-ways false refl h)
-among-at q (p ∷ ps) h =
-    ⊎-elim (λ e. (0, omega arith, same-place p q e)) (λ e. let s = among-at q ps e in (suc (s .0), omega arith, s .2)) (or-cases (samePlace p q) _ h)
-
--- what stands at an index is among the places
-at-among : (ps : List Place) (i : ℕ) → i < length ps → among (getD ps i noPlace) ps ≡ true
-at-among [] i h = absurd (omega arith)
-at-among (p ∷ ps) zero h = or-left (samePlace p p) _ (place-same p)
-at-among (p ∷ ps) (suc i) h = or-right (samePlace p (getD ps i noPlace)) _ (at-among ps i (omega arith))
-
--- the wire of a place where a token stands
-wire-found : (tokens : List Place) (p : Place) → among p tokens ≡ true → (wireAt tokens p < length tokens) × (getD tokens (wireAt tokens p) noPlace ≡ p)
-wire-found [] p h = absurd (both-ways false refl h)
-wire-found (t ∷ ts) p h =
-    cond-both (samePlace t p) 0 (suc (wireAt ts p)) (λ n. (n < suc (length ts)) × (getD (t ∷ ts) n noPlace ≡ p))
-    (λ e. (omega arith, same-place t p e))
-    (λ e. let f = wire-found ts p (⊎-elim (λ k. absurd (both-ways _ e k)) (λ k. k) (or-cases (samePlace t p) _ h)) in (omega (arith, f .0), f .1))
-
--- if all stand, each stands
-stand-each : (tokens ps : List Place) → allStand tokens ps ≡ true → (i : ℕ) → i < length ps → among (getD ps i noPlace) tokens ≡ true
-stand-each tokens [] h i l = absurd (omega arith)
-stand-each tokens (p ∷ ps) h zero l = and-parts (among p tokens) _ h .0
-stand-each tokens (p ∷ ps) h (suc i) l = stand-each tokens ps (and-parts (among p tokens) _ h .1) i (omega arith)
-
--- if each stands, all stand
-stand-all : (tokens ps : List Place) → ((i : ℕ) → i < length ps → among (getD ps i noPlace) tokens ≡ true) → allStand tokens ps ≡ true
-stand-all tokens [] h = refl
-stand-all tokens (p ∷ ps) h = and-from (among p tokens) _ (h 0 (omega arith)) (stand-all tokens ps (λ i l. h (suc i) (omega arith)))
+use Rattle.machine.proofs.Basics.{none-some, listed-at, at-listed}
+use Rattle.machine.proofs.Ways.{place-parts, same-place, among-here, wire-found, all-stand-from, all-stand-to, row-among, among-row, seat-facts, seat-is, together-seat, next-seat}
+use Rattle.machine.proofs.Joined.{next-joins, joins-next}
+use Rattle.machine.proofs.Progress.{move-facts, advanced-at, next-advance}
 
 -- the first n places of row r's type
 abbrev seatsAt : ℕ → ℕ → List Place
@@ -109,11 +51,6 @@ getD-numbers k (suc n) (suc i) h = getD-numbers (suc k) n i (omega arith) ∙ om
 getD-seats : (r n i : ℕ) → i < n → getD (seatsAt r n) i noPlace ≡ at r i
 getD-seats r n i h = getD-map (at r) (numbers 0 n) i 0 noPlace (rw length-numbers h) ∙ ap (at r) (getD-numbers 0 n i h ∙ zero-add i)
 
--- what a test lets through
-cond-some : {R : Type 0} (b : Bool) (o : Option R) (m : R) → cond b o None ≡ Some m → (b ≡ true) × (o ≡ Some m)
-cond-some true o m e = (refl, e)
-cond-some false o m e = absurd (none-some e)
-
 -- tokens that stand on different places of an accepted derivation
 module _ (es : List TypeEntry) (rows : List Row) (a : Accepted es rows) (ports : PortLaws es rows) (tokens : List Place)
     (apart : (w v : ℕ) → w < length tokens → v < length tokens → getD tokens w noPlace ≡ getD tokens v noPlace → w ≡ v)
@@ -125,12 +62,8 @@ module _ (es : List TypeEntry) (rows : List Row) (a : Accepted es rows) (ports :
   -- the wire whose token stands at a place
   wire-is : (w : ℕ) (p : Place) → w < length tokens → token w ≡ p → wireAt tokens p ≡ w
   wire-is w p l e =
-      let f = wire-found tokens p (subst (λ q. among q tokens ≡ true) e (at-among tokens w l)) in
+      let f = wire-found tokens p (among-here p tokens w l e) in
       apart (wireAt tokens p) w (f .0) l (f .1 ∙ sym e)
-
-  -- where a token is after some have moved
-  getD-advanced : (ps : List Place) (v : ℕ) → v < length tokens → getD (advanced es rows ps tokens) v noPlace ≡ cond (among (token v) ps) (advance es rows (token v)) (token v)
-  getD-advanced ps v l = getD-map (λ t. cond (among t ps) (advance es rows t) t) tokens v noPlace noPlace l
 
   -- what the tokens are after some have moved, by each token
   advanced-is : (ps after : List Place) → length after ≡ length tokens
@@ -141,7 +74,7 @@ module _ (es : List TypeEntry) (rows : List Row) (a : Accepted es rows) (ports :
       ext-getD noPlace after (advanced es rows ps tokens) (n ∙ sym (length-map tokens (λ t. cond (among t ps) (advance es rows t) t)))
       (λ v k.
       let l : v < length tokens = omega (arith, n) in
-      ⊎-elim (λ e. moving v l e ∙ sym (cond-true _ _ _ e)) (λ e. staying v l e ∙ sym (cond-false _ _ _ e)) (cases-bool (among (token v) ps)) ∙ sym (getD-advanced ps v l))
+      ⊎-elim (λ e. moving v l e ∙ sym (cond-true _ _ _ e)) (λ e. staying v l e ∙ sym (cond-false _ _ _ e)) (cases-bool (among (token v) ps)) ∙ sym (advanced-at es rows ps tokens v l))
 
   -- one token that moves alone
   advanced-alone : (w : ℕ) → w < length tokens → set tokens w (advance es rows (token w)) ≡ advanced es rows (token w ∷ []) tokens
@@ -149,7 +82,7 @@ module _ (es : List TypeEntry) (rows : List Row) (a : Accepted es rows) (ports :
       advanced-is (token w ∷ []) (set tokens w (advance es rows (token w))) (length-set tokens w _)
       (λ v k e.
       let same = alone v k e in ap (λ n. getD (set tokens w (advance es rows (token w))) n noPlace) same ∙ getD-set-same tokens w _ noPlace l ∙ ap (λ n. advance es rows (token n)) (sym same))
-      (λ v k e. getD-set-other tokens w v _ noPlace (λ same. both-ways _ e (subst (λ n. among (token n) (token w ∷ []) ≡ true) (sym same) (at-among (token w ∷ []) 0 (omega arith)))))
+      (λ v k e. getD-set-other tokens w v _ noPlace (λ same. both-ways _ e (subst (λ n. among (token n) (token w ∷ []) ≡ true) (sym same) (among-here _ (token w ∷ []) 0 (omega arith) refl))))
     where
       alone : (v : ℕ) → v < length tokens → among (token v) (token w ∷ []) ≡ true → v ≡ w
       alone v k e = ⊎-elim (λ s. sym (apart w v l k (same-place _ _ s))) (λ s. absurd (both-ways false refl s)) (or-cases (samePlace (token w) (token v)) false e)
@@ -162,19 +95,6 @@ module _ (es : List TypeEntry) (rows : List Row) (a : Accepted es rows) (ports :
       cond-true _ _ _ (lt-ltb _ _ l) ∙ cond-true _ _ _ h
       ∙ ap (λ ts. Some (record { tokens = ts; fired = firedAt es rows tokens (token w) })) e ∙ ap (λ g. Some (record { tokens = after; fired = g })) k
 
-  -- a wire that moves can move
-  move-from : (w : ℕ) (m : Moved) → move es rows tokens w ≡ Some m → (w < length tokens) × (movable es rows tokens (token w) ≡ true)
-  unfolding move
-  move-from w m e = let (l, k) = cond-some _ _ m e in (ltb-true _ _ l, cond-some _ _ m k .0)
-
-  -- the only places at which no token moves are ends
-  next-some : (p : Place) → isPlace es rows p ≡ true → isEnd es rows p ≡ false → (q : Place) × (next es rows p ≡ Some q)
-  next-some p h n = go (next es rows p) refl
-    where
-      go : (o : Option Place) → next es rows p ≡ o → (q : Place) × (next es rows p ≡ Some q)
-      go None e = absurd (both-ways _ n (ports .to-end p h e))
-      go (Some q) e = (q, e)
-
   -- a place with a next place is no end
   next-no-end : (p q : Place) → next es rows p ≡ Some q → isEnd es rows p ≡ false
   next-no-end p q e = not-so _ (λ t. none-some (sym (ports .at-end p t) ∙ e))
@@ -185,7 +105,7 @@ module _ (es : List TypeEntry) (rows : List Row) (a : Accepted es rows) (ports :
   move-alone w q l s e =
       let one : together es rows (token w) ≡ token w ∷ [] = cond-false _ _ _ s in
       move-made w (set tokens w q) None l
-      (and-from _ _ (not-from-false _ (next-no-end (token w) q e)) (ap (allStand tokens) one ∙ and-from _ true (at-among tokens w l) refl))
+      (and-from _ _ (not-from-false _ (next-no-end (token w) q e)) (ap (allStand tokens) one ∙ and-from _ true (among-here _ tokens w l refl) refl))
       (ap (λ ps. advanced es rows ps tokens) one ∙ sym (advanced-alone w l) ∙ ap (λ o. set tokens w (valueOr o (token w))) e)
       (cond-false _ _ _ s)
 
@@ -199,52 +119,35 @@ module _ (es : List TypeEntry) (rows : List Row) (a : Accepted es rows) (ports :
     abbrev seated : List ℕ
     seated = map (wireAt tokens) seating
 
-    -- a gate's first atoms are seats
-    seat-is : (i : ℕ) → i < arity g → isSeat es rows (at r i) ≡ true
-    seat-is i l = ap (λ k. ltb i (seats k)) e ∙ lt-ltb i (arity g) l
-
-    -- the place after a seat is the result of the same seat
-    next-seat : (i : ℕ) → i < arity g → next es rows (at r i) ≡ Some (at r (arity g + i))
-    unfolding next
-    next-seat i l =
-        cond-true _ _ _ (gate-negative es rows a r g i h e ∙ lt-ltb _ _ l)
-        ∙ ap (λ k. acrossOwn es rows r k Ty i) e
-        ∙ ap (λ p. Some p) (cond-true _ _ _ (lt-ltb i (arity g) l))
-
-    -- the places that move together with a seat
-    together-seat : (i : ℕ) → i < arity g → together es rows (at r i) ≡ seating
-    together-seat i l = cond-true _ _ _ (seat-is i l) ∙ ap (λ k. seatsAt r (seats k)) e
-
     -- what fires at a seat
     fired-seat : (i : ℕ) → i < arity g → firedAt es rows tokens (at r i) ≡ Some (record { gate = g; wires = seated })
     fired-seat i l =
-        cond-true _ _ _ (seat-is i l)
+        cond-true _ _ _ (seat-is es rows r g e i l)
         ∙ ap (λ k. gateFired es rows k (map (wireAt tokens) (together es rows (at r i)))) e
-        ∙ ap (λ ps. Some (record { gate = g; wires = map (wireAt tokens) ps })) (together-seat i l)
+        ∙ ap (λ ps. Some (record { gate = g; wires = map (wireAt tokens) ps })) (together-seat es rows r g e i l)
 
     -- the move of a gate whose seats are all held
     move-gate : (w i : ℕ) → w < length tokens → i < arity g → token w ≡ at r i → allStand tokens seating ≡ true
         → move es rows tokens w ≡ Some (record { tokens = advanced es rows seating tokens; fired = Some (record { gate = g; wires = seated }) })
     move-gate w i l k t all =
         move-made w (advanced es rows seating tokens) (Some (record { gate = g; wires = seated })) l
-        (ap (movable es rows tokens) t ∙ and-from _ _ (not-from-false _ (next-no-end (at r i) _ (next-seat i k))) (ap (allStand tokens) (together-seat i k) ∙ all))
-        (ap (λ p. advanced es rows (together es rows p) tokens) t ∙ ap (λ ps. advanced es rows ps tokens) (together-seat i k))
+        (ap (movable es rows tokens) t ∙ and-from _ _ (not-from-false _ (next-no-end (at r i) _ (next-seat es rows a r g e i k))) (ap (allStand tokens) (together-seat es rows r g e i k) ∙ all))
+        (ap (λ p. advanced es rows (together es rows p) tokens) t ∙ ap (λ ps. advanced es rows ps tokens) (together-seat es rows r g e i k))
         (ap (firedAt es rows tokens) t ∙ fired-seat i k)
 
     -- the seats are the gate's first places
     seat-among : (i : ℕ) → i < arity g → among (at r i) seating ≡ true
-    seat-among i l = subst (λ p. among p seating ≡ true) (getD-seats r (arity g) i l) (at-among seating i (rw length-seats l))
+    seat-among i l = among-row r 0 (arity g) i (omega arith) (omega arith)
 
     -- a place among the seats is one of them
     among-seat : (p : Place) → among p seating ≡ true → (i : ℕ) × (i < arity g) × (p ≡ at r i)
     among-seat p m =
-        let s = among-at p seating m in
-        let l : s .0 < arity g = omega (arith, s .1, length-seats r (arity g)) in
-        (s .0, l, sym (s .2) ∙ getD-seats r (arity g) (s .0) l)
+        let (i, l, e) = row-among r 0 (arity g) p m in
+        (i, omega arith, sym e)
 
     -- a token at a seat comes to its result
     advance-seat : (v i : ℕ) → i < arity g → token v ≡ at r i → advance es rows (token v) ≡ at r (arity g + i)
-    advance-seat v i l t = ap (advance es rows) t ∙ ap (λ o. valueOr o (at r i)) (next-seat i l)
+    advance-seat v i l t = ap (advance es rows) t ∙ ap (λ o. valueOr o (at r i)) (next-seat es rows a r g e i l)
 
     -- each seat has one wire
     length-seated : length seated ≡ arity g
@@ -259,13 +162,13 @@ module _ (es : List TypeEntry) (rows : List Row) (a : Accepted es rows) (ports :
         → Step es rows tokens w (Some (record { gate = g; wires = seated })) (advanced es rows seating tokens)
     step-gate w i l k t all =
         Step.fires l h e length-seated (wired w i k l t) holds (length-map tokens _)
-        (λ j m. getD-advanced seating (getD seated j 0) (holds j m .0) ∙ cond-true _ _ _ (subst (λ p. among p seating ≡ true) (sym (holds j m .1)) (seat-among j m)) ∙ advance-seat _ j m (holds j m .1))
-        (λ v m n. getD-advanced seating v m ∙ cond-false _ _ _ (not-so _ (λ b. let s = among-seat (token v) b in both-ways _ n (wired v (s .0) (s .1) m (s .2)))))
+        (λ j m. advanced-at es rows seating tokens (getD seated j 0) (holds j m .0) ∙ cond-true _ _ _ (subst (λ p. among p seating ≡ true) (sym (holds j m .1)) (seat-among j m)) ∙ advance-seat _ j m (holds j m .1))
+        (λ v m n. advanced-at es rows seating tokens v m ∙ cond-false _ _ _ (not-so _ (λ b. let s = among-seat (token v) b in both-ways _ n (wired v (s .0) (s .1) m (s .2)))))
       where
         holds : (j : ℕ) → j < arity g → (getD seated j 0 < length tokens) × (token (getD seated j 0) ≡ at r j)
         holds j m =
             subst (λ v. (v < length tokens) × (token v ≡ at r j)) (sym (getD-seated j m))
-            (wire-found tokens (at r j) (subst (λ p. among p tokens ≡ true) (getD-seats r (arity g) j m) (stand-each tokens seating all j (rw length-seats m))))
+            (wire-found tokens (at r j) (all-stand-from tokens seating all (at r j) (seat-among j m)))
 
         wired : (v j : ℕ) → j < arity g → v < length tokens → token v ≡ at r j → listed v seated ≡ true
         wired v j m n s = subst (λ u. listed u seated ≡ true) (getD-seated j m ∙ wire-is v (at r j) n s) (at-listed seated j (rw length-seated m))
@@ -280,14 +183,12 @@ module _ (es : List TypeEntry) (rows : List Row) (a : Accepted es rows) (ports :
     gate-moves w ws after l n x holds m there others =
         let s = listed-at w ws x in
         let k : s .0 < arity g = omega (arith, s .1) in
-        move-gate w (s .0) l k (ap token (sym (s .2)) ∙ holds (s .0) k .1) (stand-all tokens seating all)
+        move-gate w (s .0) l k (ap token (sym (s .2)) ∙ holds (s .0) k .1) (all-stand-to tokens seating all)
         ∙ ap (λ ts. Some (record { tokens = ts; fired = Some (record { gate = g; wires = seated }) })) (sym (advanced-is seating after m moving staying))
         ∙ ap (λ us. Some (record { tokens = after; fired = Some (record { gate = g; wires = us }) })) (sym same-wires)
       where
-        all : (j : ℕ) → j < length seating → among (getD seating j noPlace) tokens ≡ true
-        all j b =
-            let k : j < arity g = omega (arith, length-seats r (arity g)) in
-            subst (λ p. among p tokens ≡ true) (holds j k .1 ∙ sym (getD-seats r (arity g) j k)) (at-among tokens (getD ws j 0) (holds j k .0))
+        all : (p : Place) → among p seating ≡ true → among p tokens ≡ true
+        all p b = let (j, k, e) = among-seat p b in among-here p tokens (getD ws j 0) (holds j k .0) (holds j k .1 ∙ sym e)
 
         same-wires : ws ≡ seated
         same-wires =
@@ -314,21 +215,21 @@ module _ (es : List TypeEntry) (rows : List Row) (a : Accepted es rows) (ports :
   -- each move is a step
   step-from : (w : ℕ) (m : Moved) → move es rows tokens w ≡ Some m → Step es rows tokens w (m .fired) (m .tokens)
   step-from w m e =
-      let (l, can) = move-from w m e in
+      let (l, can, after, fired) = move-facts es rows tokens w m e in
       let (going, all) = and-parts (not (isEnd es rows (token w))) _ can in
       let r = token w .row .0 in
       let i = token w .atom .0 in
       ⊎-elim
       (λ s.
-      let (g, k, t, j) = seat-gate (ruleAt rows r) (token w .part) i s in
+      let (g, k, j, same) = seat-facts es rows (token w) s in
       let h = place-parts es rows (token w) (stand w l) .0 in
-      let here : token w ≡ at r i = ap (λ part. place r part i) t in
-      let held = sym (ap (λ p. allStand tokens (together es rows p)) here ∙ ap (allStand tokens) (together-seat r g h k i j)) ∙ all in
+      let here : token w ≡ at r i = sym same in
+      let held = sym (ap (λ p. allStand tokens (together es rows p)) here ∙ ap (allStand tokens) (together-seat es rows r g k i j)) ∙ all in
       step-as w _ m (move-gate r g h k w i l j here held) e (step-gate r g h k w i l j here held))
       (λ s.
-      let (q, f) = next-some (token w) (stand w l) (not-true _ going) in
-      let (r, enters, joins) = next-joins es rows a (token w) q (stand w l) s f in
-      step-as w _ m (move-alone w q l s f) e (Step.passes l refl enters joins))
+      let f = next-advance es rows ports (token w) (stand w l) (not-true _ going) in
+      let (r, enters, joins) = next-joins es rows a (token w) _ (stand w l) s f in
+      step-as w _ m (move-alone w _ l s f) e (Step.passes l refl enters joins))
       (cases-bool (isSeat es rows (token w)))
 
   -- each step is a move

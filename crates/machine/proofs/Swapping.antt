@@ -9,21 +9,12 @@ use lib.Dec.{eqb}
 use lib.ListN.{length, getD}
 use Rattle.std.specs.shelf.Lists.{All}
 use Rattle.std.proofs.shelf.Elements.{all-from-every}
-use Rattle.std.proofs.shelf.Tests.{and-parts, and-cases, or-cases, or-left, or-right, not-true, not-false, both-ways, cases-bool, cond-true, cond-false, eqb-true, eq-eqb}
-use Rattle.derivation.specs.Places.{keep}
+use Rattle.std.proofs.shelf.Tests.{and-parts, and-cases, or-cases, or-right, not-true, not-false, both-ways, cases-bool, cond-true, cond-false, eqb-true}
 use Rattle.derivation.proofs.TreeLaws.{not-so}
 use Rattle.machine.specs.Ports.{listed}
 use Rattle.machine.specs.Tokens.{Fired}
 use Rattle.machine.specs.Gates.{onWire, SameOrder, apartFrom, apart, Swaps, same, swap, Wired, acted}
-
--- what two lists keep
-pub keep-append : {A : Type 0} (t : A → Bool) (xs ys : List A) → keep t (xs ++ ys) ≡ keep t xs ++ keep t ys
-keep-append t [] ys = refl
-keep-append {A} t (x ∷ xs) ys = rw (keep-append t xs ys) (go (t x))
-  where
-    go : (b : Bool) → cond b (x ∷ (keep t xs ++ keep t ys)) (keep t xs ++ keep t ys) ≡ cond b (x ∷ keep t xs) (keep t xs) ++ keep t ys
-    go true = refl
-    go false = refl
+use Rattle.machine.proofs.Basics.{listed-first, at-listed, keep-append}
 
 -- lists that are apart have no common number
 common-none : (vs ws : List ℕ) (v : ℕ) → apartFrom vs ws ≡ true → listed v vs ≡ true → listed v ws ≡ true → ⊥
@@ -37,7 +28,7 @@ common-none (u ∷ vs) ws v a h k =
 common-some : (vs ws : List ℕ) → apartFrom vs ws ≡ false → (v : ℕ) × (listed v vs ≡ true) × (listed v ws ≡ true)
 common-some [] ws a = absurd (both-ways true a refl)
 common-some (u ∷ vs) ws a =
-    ⊎-elim (λ n. (u, or-left (eqb u u) (listed u vs) (eq-eqb u u refl), not-false (listed u ws) n))
+    ⊎-elim (λ n. (u, listed-first u vs, not-false (listed u ws) n))
     (λ b. let (v, h, k) = common-some vs ws b in (v, or-right (eqb u v) (listed v vs) h, k))
     (and-cases (not (listed u ws)) (apartFrom vs ws) a)
 
@@ -105,6 +96,7 @@ pulled f v h (y ∷ gs) first = ⊎-elim (before (pulled f v h gs)) here (cases-
         let off : (u : ℕ) → listed u (f .wires) ≡ true → listed u (y .wires) ≡ false = λ u k. not-so _ (common-none (f .wires) (y .wires) u a k) in
         let (hs, s) = deeper (λ u k. let (r, e) = first u k in (r, sym (cond-false _ _ _ (off u k)) ∙ e)) in
         (y ∷ hs, swaps-trans (swaps-behind y s) (swap [] y f hs (apart-symmetric f y a) same))
+
     here : apart f y ≡ false → (hs : List Fired) × Swaps (y ∷ gs) (f ∷ hs)
     here a =
         let (u, k, l) = common-some (f .wires) (y .wires) a in
@@ -116,11 +108,6 @@ pulled f v h (y ∷ gs) first = ⊎-elim (before (pulled f v h gs)) here (cases-
 -- the gate has a wire
 abbrev pub Touches : Fired → Type 0
 Touches f = 0 < length (f .wires)
-
--- the first of some wires
-first-wire : (ws : List ℕ) → 0 < length ws → (v : ℕ) × (listed v ws ≡ true)
-first-wire [] h = absurd (omega arith)
-first-wire (v ∷ ws) h = (v, or-left (eqb v v) (listed v ws) (eq-eqb v v refl))
 
 -- the same order on each wire behind a first gate
 order-behind : (f : Fired) (fs gs : List Fired) → SameOrder (f ∷ fs) (f ∷ gs) → SameOrder fs gs
@@ -134,12 +121,14 @@ order-behind f fs gs o v = go (listed v (f .wires)) (onWire v fs) (onWire v gs) 
 order-swaps : (fs gs : List Fired) → All Touches fs → All Touches gs → SameOrder fs gs → Swaps fs gs
 order-swaps [] [] a b o = same
 order-swaps [] (g ∷ gs) a (w, b) o =
-    let (v, h) = first-wire (g .wires) w in
+    let v = getD (g .wires) 0 0 in
+    let h = at-listed (g .wires) 0 w in
     let e = o v ∙ cond-true _ (g ∷ onWire v gs) _ h in
     let z : _≡_ {A = ℕ} 0 1 = cc in
     absurd (omega arith)
 order-swaps (f ∷ fs) gs (w, a) b o =
-    let (v, h) = first-wire (f .wires) w in
+    let v = getD (f .wires) 0 0 in
+    let h = at-listed (f .wires) 0 w in
     let (hs, s) = pulled f v h gs (λ u k. (onWire u fs, sym (o u) ∙ cond-true _ (f ∷ onWire u fs) _ k)) in
     let rest = order-swaps fs hs a (all-swaps Touches s b .1) (order-behind f fs hs (λ u. o u ∙ swaps-same-order _ _ s u)) in
     swaps-trans (swaps-behind f rest) (swaps-symmetric s)

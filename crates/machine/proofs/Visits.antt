@@ -20,20 +20,11 @@ use Rattle.machine.specs.Tokens.{Fired, Moved, samePlace, among, together, adv
 use Rattle.machine.specs.Runs.{Reached, begun, moved}
 use Rattle.machine.specs.Laws.{PortLaws, StartLaws, Saturates}
 use Rattle.machine.specs.Visits.{Stand, standing, onward, entered, standsOn, VisitedOnce, Logged, begun as log-begun, moved as log-moved}
-use Rattle.machine.proofs.Marked.{Comes, comes-once}
+use Rattle.machine.proofs.Basics.{some-below, keep-append}
 use Rattle.machine.proofs.Ways.{same-place, place-same}
-use Rattle.machine.proofs.Progress.{machine, placed, some-below, marked, VisitedBy, reached-length, run-fact, visited-place, step, move-fresh, move-visited, move-back, home-visited}
+use Rattle.machine.proofs.Marked.{Comes, comes-once}
+use Rattle.machine.proofs.Progress.{machine, placed, marked, VisitedBy, reached-length, run-fact, visited-place, step, move-fresh, move-visited, move-back, home-visited}
 use Rattle.machine.proofs.Determined.{comes}
-
--- what two lists keep
-keep-append : {A : Type 0} (t : A → Bool) (xs ys : List A) → keep t (xs ++ ys) ≡ keep t xs ++ keep t ys
-keep-append t [] ys = refl
-keep-append {A} t (x ∷ xs) ys = go (t x) (keep-append t xs ys)
-  where
-    go : (b : Bool) → keep t (xs ++ ys) ≡ keep t xs ++ keep t ys
-        → cond b (x ∷ keep t (xs ++ ys)) (keep t (xs ++ ys)) ≡ cond b (x ∷ keep t xs) (keep t xs) ++ keep t ys
-    go true ih = ap (λ (l : List A). x ∷ l) ih
-    go false ih = ih
 
 -- what is kept of elements that are made from others
 keep-map : {A B : Type 0} (t : B → Bool) (f : A → B) (xs : List A) → keep t (map f xs) ≡ map f (keep (λ x. t (f x)) xs)
@@ -123,25 +114,31 @@ module _ (es : List TypeEntry) (rows : List Row) (a : Accepted es rows) (ports :
   tally-begun : (p : Place) → Tally es rows begun (standing 0 (starts es rows)) p
   tally-begun p = ⊎-elim
       (λ (w, h, e).
-          let same = same-place (placed (starts es rows) w) p e in
-          inl (inr (w, h, same), record {
-            wire = w;
-            inside = h;
-            comes = (0, (λ j l. absurd (omega arith)), same);
-            stands =
-                stand-one on 0 (starts es rows) w w (omega arith) (outside w h) e
-                (λ j l f. begin .distinct j w (within j l) h (same-place _ p f ∙ sym same))
-                ∙ ap (λ (q : Place). record { wire = w; place = q } ∷ []) same;
-          }))
-      (λ none. inr
-          ( ⊎-elim (λ e. both-ways false refl e) (λ (w, h, e). both-ways _ (none w h) (place-same _ p e))
-          , stand-none on 0 (starts es rows) (λ v l. none v (within v l))))
+      let same = same-place (placed (starts es rows) w) p e in
+      inl (
+        inr (w, h, same),
+        record {
+          wire = w;
+          inside = h;
+          comes = (0, (λ j l. absurd (omega arith)), same);
+          stands =
+              stand-one on 0 (starts es rows) w w (omega arith) (outside w h) e
+              (λ j l f. begin .distinct j w (within j l) h (same-place _ p f ∙ sym same))
+              ∙ ap (λ (q : Place). record { wire = w; place = q } ∷ []) same;
+        },
+      ))
+      (λ none. inr (
+        ⊎-elim (λ e. both-ways false refl e) (λ (w, h, e). both-ways _ (none w h) (place-same _ p e)),
+        stand-none on 0 (starts es rows) (λ v l. none v (within v l)),
+      ))
       (some-below (λ w. on (placed (starts es rows) w)) (wires es rows))
     where
       on : Place → Bool
       on q = samePlace q p
+
       outside : (w : ℕ) → w < wires es rows → w < length (starts es rows)
       outside w h = subst⁻¹ (λ n. w < n) (begin .count) h
+
       within : (w : ℕ) → w < length (starts es rows) → w < wires es rows
       within w h = subst (λ n. w < n) (begin .count) h
 
@@ -184,27 +181,33 @@ module _ (es : List TypeEntry) (rows : List Row) (a : Accepted es rows) (ports :
     tally-new log (inr (new, empty)) v h y =
         let (moves, s) = coming-with v y in
         let arrived = step es rows a ports begin r w m e .goes v h moves ∙ s in
-        inl (inr (v, h, arrived), record {
-          wire = v;
-          inside = h;
-          comes = subst (Comes (machine es rows) v) arrived (comes es rows a ports begin (moved r w m e) v h);
-          stands =
-              keep-append _ log _
-              ∙ ap (λ (l : List Stand). l ++ standsOn p (entered es rows moving tokens)) empty
-              ∙ entered-one es rows moving tokens p v (subst⁻¹ (λ n. v < n) (reached-length es rows begin r) h) y (λ j l z. coming-once j v (within j l) h z y)
-              ∙ ap (λ (q : Place). record { wire = v; place = q } ∷ []) s;
-        })
+        inl (
+          inr (v, h, arrived),
+          record {
+            wire = v;
+            inside = h;
+            comes = subst (Comes (machine es rows) v) arrived (comes es rows a ports begin (moved r w m e) v h);
+            stands =
+                keep-append _ log _
+                ∙ ap (λ (l : List Stand). l ++ standsOn p (entered es rows moving tokens)) empty
+                ∙ entered-one es rows moving tokens p v (subst⁻¹ (λ n. v < n) (reached-length es rows begin r) h) y (λ j l z. coming-once j v (within j l) h z y)
+                ∙ ap (λ (q : Place). record { wire = v; place = q } ∷ []) s;
+          },
+        )
 
     -- where none does
     tally-old : (log : List Stand) → Tally es rows r log p → ((v : ℕ) → v < wires es rows → coming v ≡ false)
         → Tally es rows (moved r w m e) (log ++ entered es rows moving tokens) p
     tally-old log before none = ⊎-elim
-        (λ (visited, seen). inl (move-visited es rows a ports begin r w m e p visited, record {
-          wire = seen .wire;
-          inside = seen .inside;
-          comes = seen .comes;
-          stands = same ∙ seen .stands;
-        }))
+        (λ (visited, seen). inl (
+          move-visited es rows a ports begin r w m e p visited,
+          record {
+            wire = seen .wire;
+            inside = seen .inside;
+            comes = seen .comes;
+            stands = same ∙ seen .stands;
+          },
+        ))
         (λ (new, empty). inr ((λ visited. ⊎-elim new entering (move-back es rows a ports begin r w m e p visited)), same ∙ empty))
         before
       where
@@ -213,6 +216,7 @@ module _ (es : List TypeEntry) (rows : List Row) (a : Accepted es rows) (ports :
             keep-append _ log _
             ∙ ap (λ (l : List Stand). standsOn p log ++ l) (entered-none es rows moving tokens p (λ v l. none v (within v l)))
             ∙ append-nil (standsOn p log)
+
         entering : (v : ℕ) × (v < wires es rows) × (machine es rows .with (placed tokens w) (placed tokens v) ≡ true) × (advance es rows (placed tokens v) ≡ p) → ⊥
         entering (v, h, moves, s) = both-ways _ (none v h) (and-from _ _ (and-parts (not (isEnd es rows (placed tokens w))) _ moves .1) (place-same _ p s))
 
@@ -231,10 +235,10 @@ module _ (es : List TypeEntry) (rows : List Row) (a : Accepted es rows) (ports :
       → standsOn p log ≡ record { wire = w; place = p } ∷ [] → (w < wires es rows) × Comes (machine es rows) w p
   stood {log} l p w e = ⊎-elim
       (λ (visited, seen).
-          let there = seen .stands in
-          let one : _≡_ {A = Stand} (record { wire = seen .wire; place = p }) (record { wire = w; place = p }) = cc in
-          let same = ap (λ (s : Stand). s .wire) one in
-          (subst (λ v. v < wires es rows) same (seen .inside), subst (λ v. Comes (machine es rows) v p) same (seen .comes)))
+      let there = seen .stands in
+      let one : _≡_ {A = Stand} (record { wire = seen .wire; place = p }) (record { wire = w; place = p }) = cc in
+      let same = ap (λ (s : Stand). s .wire) one in
+      (subst (λ v. v < wires es rows) same (seen .inside), subst (λ v. Comes (machine es rows) v p) same (seen .comes)))
       (λ (new, empty). let z : _≡_ {A = ℕ} 0 1 = cc in absurd (omega arith))
       (tally l p)
 

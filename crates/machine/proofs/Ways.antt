@@ -1,17 +1,17 @@
--- Which places are equal, stand in a list, and move together: a gate's seats, which are places of its row and no ends.
+-- Places: which there are, which are equal, stand in a list, and move together. A gate's seats are places of its row and no ends.
 use mathlib.Core.Path.{_≡_, refl, sym, _∙_, ap, subst}
-use mathlib.Core.Bool.{true, false, not}
+use mathlib.Core.Bool.{Bool, true, false, not, cond}
 use mathlib.Core.Logic.{_⊎_, inl, inr, ⊎-elim}
 use mathlib.Core.List.{List, [], _∷_, map}
 use Prim.Native.Nat.{ℕ, zero, suc, _+_, _-_, _≤_, _<_}
 use native.Mathlib.Omega.{arith}
 use lib.Dec.{eqb, ltb}
 use lib.ListN.{length, getD}
+use Rattle.std.specs.declared.option.Option.the-variants.{Some}
 use Rattle.std.proofs.shelf.Lists.{getD-past}
 use Rattle.std.proofs.shelf.Tests.{both-ways, cases-bool, cases-lt, cases-eq, and-parts, and-from, and-right, or-cases, or-left, or-right, cond-true, cond-false, cond-both}
 use Rattle.std.proofs.shelf.Tests.{eqb-true, eq-eqb, ltb-true, lt-ltb}
 use Rattle.derivation.specs.declared.gate.Gate.{Gate as GateName}
-use Rattle.derivation.specs.declared.gate.Gate.the-variants.{H, S, T, X, Z, Cx, Cz, Ccx}
 use Rattle.derivation.specs.declared.types.TypeEntry.{TypeEntry}
 use Rattle.derivation.specs.declared.rows.Rule.{Rule}
 use Rattle.derivation.specs.declared.rows.Rule.the-variants.{Variable, Zero, One, Gate, Lambda, PairLambda, Apply, Pair}
@@ -20,22 +20,45 @@ use Rattle.derivation.specs.declared.rows.Part.{Part}
 use Rattle.derivation.specs.declared.rows.Part.the-variants.{Ty, Variable as Var}
 use Rattle.derivation.specs.declared.rows.Place.{Place}
 use Rattle.derivation.specs.Gates.{arity}
-use Rattle.derivation.specs.Trees.{Tree, arrow, atoms, positive, power}
+use Rattle.derivation.specs.Sets.{has}
+use Rattle.derivation.specs.Trees.{arrow, atoms, positive, power}
 use Rattle.derivation.specs.Rows.{noRow}
-use Rattle.derivation.specs.Judgements.{Judgement, ruleAt, treeAt}
-use Rattle.derivation.specs.Judgements.{Infers, variable, zero-bit, one-bit, gate, abstraction, pair-abstraction, application, pairing}
+use Rattle.derivation.specs.Judgements.{ruleAt, envAt, treeAt}
 use Rattle.derivation.specs.Places.{numbers, negative}
 use Rattle.derivation.specs.Accepted.{Accepted}
-use Rattle.machine.specs.Ports.{at, isPlace, isEnd}
-use Rattle.machine.specs.Tokens.{samePart, samePlace, among, seats, seatIn, noPlace, isSeat, together, allStand}
+use Rattle.machine.specs.Ports.{at, held, width, partWidth, next, isPlace, isEnd}
+use Rattle.machine.specs.Tokens.{samePart, samePlace, among, wireAt, seats, seatIn, noPlace, isSeat, together, allStand}
+use Rattle.machine.proofs.Signs.{rule-says, power-positive, power-atoms}
 
--- two parts pass the test exactly if they are equal
-same-part : (x y : Part) → samePart x y ≡ true → x ≡ y
+-- an atom of a part of row r
+abbrev pub place : ℕ → Part → ℕ → Place
+place r part i = record { row = record { 0 = r }; part = part; atom = record { 0 = i } }
+
+-- the atoms of a variable, if the environment has it
+pub part-has : (b : Bool) (n i : ℕ) → i < cond b n 0 → (b ≡ true) × (i < n)
+part-has true n i h = (refl, h)
+part-has false n i h = absurd (omega arith)
+
+-- places, in types and in variables
+module _ (es : List TypeEntry) (rows : List Row) where
+  pub place-at : (r i : ℕ) → r < length rows → i < width es rows r → isPlace es rows (at r i) ≡ true
+  place-at r i h l = and-from _ _ (lt-ltb _ _ h) (lt-ltb _ _ l)
+
+  pub place-held : (r z i : ℕ) → r < length rows → has (envAt rows r) z ≡ true → i < width es rows z → isPlace es rows (held r z i) ≡ true
+  place-held r z i h m l = and-from _ _ (lt-ltb _ _ h) (rw m (lt-ltb _ _ l))
+
+  -- the row and the atom of a place
+  pub place-parts : (p : Place) → isPlace es rows p ≡ true → (p .row .0 < length rows) × (p .atom .0 < partWidth es rows (p .row .0) (p .part))
+  place-parts p h = let (r, i) = and-parts (ltb (p .row .0) (length rows)) _ h in (ltb-true _ _ r, ltb-true _ _ i)
+
+-- parts that pass the test are equal
+pub same-part : (x y : Part) → samePart x y ≡ true → x ≡ y
 same-part Ty Ty e = refl
 same-part Ty (Var y) e = absurd (both-ways false refl e)
 same-part (Var x) Ty e = absurd (both-ways false refl e)
 same-part (Var x) (Var y) e = ap (λ n. Var (record { 0 = n })) (eqb-true (x .0) (y .0) e)
 
+-- equal parts pass it
 part-same : (x : Part) → samePart x x ≡ true
 part-same Ty = refl
 part-same (Var x) = eq-eqb (x .0) (x .0) refl
@@ -69,6 +92,14 @@ among-here q [] i h e = absurd (omega arith)
 among-here q (p ∷ ps) zero h e = or-left (samePlace p q) (among q ps) (place-same p q e)
 among-here q (p ∷ ps) (suc i) h e = or-right (samePlace p q) (among q ps) (among-here q ps i (omega arith) e)
 
+-- the wire of a place where a token stands
+pub wire-found : (tokens : List Place) (p : Place) → among p tokens ≡ true → (wireAt tokens p < length tokens) × (getD tokens (wireAt tokens p) noPlace ≡ p)
+wire-found [] p h = absurd (both-ways false refl h)
+wire-found (t ∷ ts) p h =
+    cond-both (samePlace t p) 0 (suc (wireAt ts p)) (λ n. (n < suc (length ts)) × (getD (t ∷ ts) n noPlace ≡ p))
+    (λ e. (omega arith, same-place t p e))
+    (λ e. let f = wire-found ts p (⊎-elim (λ k. absurd (both-ways _ e k)) (λ k. k) (or-cases (samePlace t p) _ h)) in (omega (arith, f .0), f .1))
+
 -- tokens stand at all places of a list exactly if they do at each
 pub all-stand-from : (tokens ps : List Place) → allStand tokens ps ≡ true → (q : Place) → among q ps ≡ true → among q tokens ≡ true
 all-stand-from tokens [] a q e = absurd (both-ways false refl e)
@@ -86,14 +117,14 @@ all-stand-to tokens (p ∷ ps) h =
     (all-stand-to tokens ps (λ q e. h q (or-right (samePlace p q) (among q ps) e)))
 
 -- the places of a row with numbers from k on
-row-among : (r k n : ℕ) (q : Place) → among q (map (at r) (numbers k n)) ≡ true → (j : ℕ) × (j < k + n) × (at r j ≡ q)
+pub row-among : (r k n : ℕ) (q : Place) → among q (map (at r) (numbers k n)) ≡ true → (j : ℕ) × (j < k + n) × (at r j ≡ q)
 row-among r k zero q e = absurd (both-ways false refl e)
 row-among r k (suc n) q e = ⊎-elim
     (λ s. (k, omega arith, same-place (at r k) q s))
     (λ s. let (j, h, f) = row-among r (suc k) n q s in (j, omega arith, f))
     (or-cases (samePlace (at r k) q) _ e)
 
-among-row : (r k n j : ℕ) → k ≤ j → j < k + n → among (at r j) (map (at r) (numbers k n)) ≡ true
+pub among-row : (r k n j : ℕ) → k ≤ j → j < k + n → among (at r j) (map (at r) (numbers k n)) ≡ true
 among-row r k zero j h l = absurd (omega arith)
 among-row r k (suc n) j h l = ⊎-elim
     (λ s. or-left (samePlace (at r k) (at r j)) _ (place-same (at r k) (at r j) (ap (at r) s)))
@@ -129,9 +160,9 @@ module _ (es : List TypeEntry) (rows : List Row) where
   pub mates-from : (p q : Place) → among q (together es rows p) ≡ true → Mates es rows p q
   mates-from p q e = ⊎-elim
       (λ s.
-          let r = p .row .0 in
-          let (j, h, f) = row-among r 0 (seats (ruleAt rows r)) q (ap (among q) (sym (cond-true (isSeat es rows p) _ _ s)) ∙ e) in
-          inl (s, subst (λ (x : Place). isSeat es rows x ≡ true) f (lt-ltb j (seats (ruleAt rows r)) (omega arith)), ap (λ (x : Place). x .row .0) f))
+      let r = p .row .0 in
+      let (j, h, f) = row-among r 0 (seats (ruleAt rows r)) q (ap (among q) (sym (cond-true (isSeat es rows p) _ _ s)) ∙ e) in
+      inl (s, subst (λ (x : Place). isSeat es rows x ≡ true) f (lt-ltb j (seats (ruleAt rows r)) (omega arith)), ap (λ (x : Place). x .row .0) f))
       (λ s. inr (s, only-one (ap (among q) (sym (cond-false (isSeat es rows p) _ _ s)) ∙ e)))
       (cases-bool (isSeat es rows p))
     where
@@ -161,34 +192,6 @@ module _ (es : List TypeEntry) (rows : List Row) where
   mates-trans p q r (inr (s, e)) (inl (t, u, f)) = absurd (both-ways (isSeat es rows p) s (subst (λ (x : Place). isSeat es rows x ≡ true) (sym e) t))
   mates-trans p q r (inr (s, e)) (inr (t, f)) = inr (s, e ∙ f)
 
--- the type of a gate's row
-gate-type : {of : ℕ → Tree} {k : ℕ} {rule : Rule} {js : List Judgement} {j : Judgement} → Infers of k rule js j
-    → (g : GateName) → rule ≡ Gate g → j .type ≡ arrow (power (arity g)) (power (arity g))
-gate-type variable g e = cc
-gate-type zero-bit g e = cc
-gate-type one-bit g e = cc
-gate-type (gate {g = h}) g e = let s : h ≡ g = cc in rw s refl
-gate-type (abstraction b) g e = cc
-gate-type (pair-abstraction b c d) g e = cc
-gate-type (application b) g e = cc
-gate-type (pairing b) g e = cc
-
--- a power of a gate has as many atoms as the gate acts on wires, all positive
-pub atoms-power : (g : GateName) → atoms (power (arity g)) ≡ arity g
-atoms-power H = refl
-atoms-power S = refl
-atoms-power T = refl
-atoms-power X = refl
-atoms-power Z = refl
-atoms-power Cx = refl
-atoms-power Cz = refl
-atoms-power Ccx = refl
-
-pub positive-power : (n i : ℕ) → positive (power n) i ≡ true
-positive-power zero i = refl
-positive-power (suc zero) i = refl
-positive-power (suc (suc n)) i = cond-both (ltb i 1) true _ (λ b. b ≡ true) (λ e. refl) (λ e. positive-power (suc n) (i - 1))
-
 -- a row with a gate is a row of the derivation
 gate-row : (rows : List Row) (r : ℕ) (g : GateName) → ruleAt rows r ≡ Gate g → r < length rows
 gate-row rows r g e = ⊎-elim (λ h. h)
@@ -198,28 +201,49 @@ gate-row rows r g e = ⊎-elim (λ h. h)
 -- the tree of a gate's row
 pub gate-tree : (es : List TypeEntry) (rows : List Row) → Accepted es rows → (r : ℕ) (g : GateName) → ruleAt rows r ≡ Gate g
     → treeAt es rows r ≡ arrow (power (arity g)) (power (arity g))
-gate-tree es rows a r g e = gate-type (a .follows r (gate-row rows r g e)) g e
+gate-tree es rows a r g e = rule-says es rows a r (Gate g) (gate-row rows r g e) e .0
+
+-- a gate's first atoms are seats, and move together
+module _ (es : List TypeEntry) (rows : List Row) (r : ℕ) (g : GateName) (e : ruleAt rows r ≡ Gate g) (i : ℕ) (l : i < arity g) where
+  pub seat-is : isSeat es rows (at r i) ≡ true
+  seat-is = ap (λ k. ltb i (seats k)) e ∙ lt-ltb i (arity g) l
+
+  pub together-seat : together es rows (at r i) ≡ map (at r) (numbers 0 (arity g))
+  together-seat = cond-true _ _ _ seat-is ∙ ap (λ k. map (at r) (numbers 0 (seats k))) e
 
 module _ (es : List TypeEntry) (rows : List Row) (a : Accepted es rows) where
+  module _ (r : ℕ) (g : GateName) (e : ruleAt rows r ≡ Gate g) where
+    -- a gate row's type has two atoms for each seat
+    pub gate-width : width es rows r ≡ arity g + arity g
+    gate-width = omega (arith, ap atoms (gate-tree es rows a r g e), power-atoms g)
+
+    -- an atom of it is negative exactly if it is a seat
+    pub gate-negative : (i : ℕ) → negative es rows (at r i) ≡ ltb i (arity g)
+    gate-negative i =
+        ap (λ t. not (positive t i)) (gate-tree es rows a r g e)
+        ∙ rw (power-atoms g, power-positive (arity g) i, power-positive (arity g) (i - arity g)) (flipped (ltb i (arity g)))
+      where
+        flipped : (b : Bool) → not (cond b false true) ≡ b
+        flipped true = refl
+        flipped false = refl
+
+    -- the place after a seat is the result of the same seat
+    pub next-seat : (i : ℕ) → i < arity g → next es rows (at r i) ≡ Some (at r (arity g + i))
+    unfolding next
+    next-seat i l = rw (gate-negative i, e, lt-ltb i (arity g) l) refl
+
   -- a seat is a place
   pub seat-place : (p : Place) → isSeat es rows p ≡ true → isPlace es rows p ≡ true
   seat-place p s =
       let (g, rule, h, e) = seat-facts es rows p s in
-      let n = ap atoms (gate-tree es rows a (p .row .0) g rule) in
-      let m = atoms-power g in
-      subst (λ (x : Place). isPlace es rows x ≡ true) e
-      (and-from _ _ (lt-ltb _ _ (gate-row rows (p .row .0) g rule)) (lt-ltb _ _ (omega arith)))
+      let w = gate-width (p .row .0) g rule in
+      subst (λ (x : Place). isPlace es rows x ≡ true) e (place-at es rows (p .row .0) (p .atom .0) (gate-row rows (p .row .0) g rule) (omega arith))
 
   -- tokens climb at a seat
   pub seat-negative : (p : Place) → isSeat es rows p ≡ true → negative es rows p ≡ true
   seat-negative p s =
       let (g, rule, h, e) = seat-facts es rows p s in
-      let n = arity g in
-      let i = p .atom .0 in
-      let below : i < atoms (power n) = (let m = atoms-power g in omega arith) in
-      subst (λ (x : Place). negative es rows x ≡ true) e
-      (ap (λ (t : Tree). not (positive t i)) (gate-tree es rows a (p .row .0) g rule)
-      ∙ ap not (cond-true _ _ _ (lt-ltb i (atoms (power n)) below) ∙ ap not (positive-power n i)))
+      subst (λ (x : Place). negative es rows x ≡ true) e (gate-negative (p .row .0) g rule (p .atom .0) ∙ lt-ltb _ _ h)
 
   -- a seat is no end
   pub seat-no-end : (p : Place) → isSeat es rows p ≡ true → isEnd es rows p ≡ false

@@ -1,5 +1,5 @@
 -- Worked derivations on the machine, by computation.
-use mathlib.Core.Path.{_≡_, refl}
+use mathlib.Core.Path.{refl}
 use Rattle.derivation.specs.Format.{derivationOf, parse, cut}
 use Rattle.derivation.specs.Sets.{has, only, union, without}
 use Rattle.derivation.specs.Growth.{grown}
