@@ -2,7 +2,7 @@
 ghost use Prim.Native.Nat.{_≤_};
 ghost use lib.ListN.{length};
 ghost use Rattle.std.specs.Vec.{made};
-use derivation::booking::booking;
+use machine::forecast::forecast;
 use std::io;
 use std::io::Read;
 
@@ -28,6 +28,6 @@ fn fill(input: &mut impl Read, buffer: &mut [u8]) -> io::Result<usize>
 fn main(rt: LibcRuntime) -> io::Result<()> {
     let mut buffer = [0; LIMIT];
     let count = fill(&mut rt.stdin(), &mut buffer)?;
-    let text = booking(rt.alloc(), &buffer[0..count])?;
+    let text = forecast(rt.alloc(), &buffer[0..count])?;
     rt.print(text)
 }

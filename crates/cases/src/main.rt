@@ -1,6 +1,6 @@
 // Runs each case of its standard input and compares: bytes in hexadecimal (a dash for none), a tab, and what is said of
 // them, with a semicolon for each line end but the last.
-use derivation::booking::booking;
+use machine::forecast::forecast;
 use std::alloc::AllocError;
 use std::alloc::Global;
 use std::io;
@@ -41,7 +41,7 @@ fn agrees(text: &[u8], expected: &[u8]) -> bool {
     true
 }
 
-// Whether the bytes before the tab of a line are booked as the text behind it says.
+// Whether the bytes before the tab of a line are answered as the text behind it says.
 fn holds(heap: Global, line: &[u8]) -> Result<bool, AllocError> {
     let mut tab = 0;
     while tab < line.len() && line[tab] != b'\t' {
@@ -52,7 +52,7 @@ fn holds(heap: Global, line: &[u8]) -> Result<bool, AllocError> {
     }
     let bytes = decoded(heap, &line[0..tab])?;
     let seen = bytes.len().min(LIMIT);
-    let text = booking(heap, &bytes.as_slice()[0..seen])?;
+    let text = forecast(heap, &bytes.as_slice()[0..seen])?;
     Ok(agrees(text.as_bytes(), &line[tab + 1..]))
 }
 

@@ -38,7 +38,7 @@ module _ (es : List TypeEntry) (rows : List Row) where
 pub data Logged (es : List TypeEntry) (rows : List Row) : List Place → ℕ → List Fired → List Stand → Type 0 where
   begun : Logged es rows (starts es rows) 0 [] (standing 0 (starts es rows))
   moved : {tokens : List Place} {n : ℕ} {fired : List Fired} {log : List Stand} → Logged es rows tokens n fired log → (w : ℕ) (m : Moved) → move es rows tokens w ≡ Some m →
-    Logged es rows (m .tokens) (suc n) (fired ++ listOf (m .fired)) (log ++ entered es rows (together es rows (getD tokens w noPlace)) tokens)
+      Logged es rows (m .tokens) (suc n) (fired ++ listOf (m .fired)) (log ++ entered es rows (together es rows (getD tokens w noPlace)) tokens)
 
 -- what a log has of place p
 abbrev pub standsOn : Place → List Stand → List Stand
@@ -51,6 +51,6 @@ pub record VisitedOnce (es : List TypeEntry) (rows : List Row) : Type 0 where
   pub once : (tokens : List Place) (n : ℕ) (fired : List Fired) (log : List Stand) → Logged es rows tokens n fired log → (p : Place) → length (standsOn p log) ≤ 1
   pub only : (tokens : List Place) (n : ℕ) (fired : List Fired) (log : List Stand) → Logged es rows tokens n fired log → (p : Place) → isPlace es rows p ≡ false → standsOn p log ≡ []
   pub all : (tokens : List Place) (n : ℕ) (fired : List Fired) (log : List Stand) → Logged es rows tokens n fired log → Home es rows tokens →
-    (p : Place) → isPlace es rows p ≡ true → (w : ℕ) × (w < wires es rows) × (standsOn p log ≡ record { wire = w; place = p } ∷ [])
+      (p : Place) → isPlace es rows p ≡ true → (w : ℕ) × (w < wires es rows) × (standsOn p log ≡ record { wire = w; place = p } ∷ [])
   pub same : (s t : List Place) (m n : ℕ) (fs gs : List Fired) (k l : List Stand) → Logged es rows s m fs k → Logged es rows t n gs l →
-    (p : Place) (w v : ℕ) → standsOn p k ≡ record { wire = w; place = p } ∷ [] → standsOn p l ≡ record { wire = v; place = p } ∷ [] → w ≡ v
+      (p : Place) (w v : ℕ) → standsOn p k ≡ record { wire = w; place = p } ∷ [] → standsOn p l ≡ record { wire = v; place = p } ∷ [] → w ≡ v

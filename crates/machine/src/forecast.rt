@@ -60,7 +60,12 @@ fn end_line(heap: Global, end: usize, wire: usize) -> Result<String, AllocError>
 }
 
 // Appends a line for each end.
-fn push_end_lines(heap: Global, text: &mut String, ends: &[Place], places: &[Place]) -> Result<(), AllocError>
+fn push_end_lines(
+    heap: Global,
+    text: &mut String,
+    ends: &[Place],
+    places: &[Place],
+) -> Result<(), AllocError>
     ensures { λ r. ⌜ made r (λ _. string-bytes (now (text .exit)) ≡ string-bytes (now (text .entry)) ++ endLines 0 (map (wireAt (now (places .entry))) (now (ends .entry)))) ⌝ }
 {
     for (end, place) in ends.iter().enumerate() {

@@ -209,9 +209,7 @@ impl Machine {
             Rule::Gate(gate) => Some(gate_across(r, gate, i)),
             Rule::Lambda { premise, x } => Some(self.lambda_up(premise, x, i)),
             Rule::PairLambda { premise, x, y } => Some(self.pair_lambda_up(premise, x, y, i)),
-            Rule::Apply { function, argument } => Some(
-                at(function, self.fact(argument).width + i),
-            ),
+            Rule::Apply { function, argument } => Some(at(function, self.fact(argument).width + i)),
             Rule::Pair { left, right } => Some(self.pair_up(left, right, i)),
         }
     }
@@ -223,9 +221,11 @@ impl Machine {
         match rule {
             Rule::Variable => Some(at(r, i)),
             Rule::Zero | Rule::One | Rule::Gate(_) => None,
-            Rule::Lambda { premise, .. } | Rule::PairLambda { premise, .. } => Some(
-                held(premise, z, i),
-            ),
+            Rule::Lambda { premise, .. } | Rule::PairLambda { premise, .. } => Some(held(
+                premise,
+                z,
+                i,
+            )),
             Rule::Apply {
                 function: p,
                 argument: q,
@@ -295,12 +295,17 @@ impl Machine {
         match rule {
             Rule::Variable | Rule::Zero | Rule::One | Rule::Gate(_) => None,
             Rule::Lambda { x, .. } => Some(at(r, self.fact(x).width + i)),
-            Rule::PairLambda { x, y, .. } => Some(
-                at(r, self.fact(x).width + self.fact(y).width + i),
-            ),
-            Rule::Apply { function, argument } => Some(
-                self.apply_down(r, function, argument, q, i),
-            ),
+            Rule::PairLambda { x, y, .. } => Some(at(
+                r,
+                self.fact(x).width + self.fact(y).width + i,
+            )),
+            Rule::Apply { function, argument } => Some(self.apply_down(
+                r,
+                function,
+                argument,
+                q,
+                i,
+            )),
             Rule::Pair { left, .. } => Some(self.pair_down(r, left, q, i)),
         }
     }

@@ -207,10 +207,24 @@ pub(crate) fn last_places(
     for x in 0..facts.len() {
         if has(facts[last].env, x as u8) {
             let part = Part::Variable(RowId(x as u8));
-            push_signed(&mut places, negative, facts[x].signs, r, part, facts[x].width)?;
+            push_signed(
+                &mut places,
+                negative,
+                facts[x].signs,
+                r,
+                part,
+                facts[x].width,
+            )?;
         }
     }
-    push_signed(&mut places, !negative, facts[last].signs, r, Part::Ty, facts[last].width)?;
+    push_signed(
+        &mut places,
+        !negative,
+        facts[last].signs,
+        r,
+        Part::Ty,
+        facts[last].width,
+    )?;
     Ok(places)
 }
 

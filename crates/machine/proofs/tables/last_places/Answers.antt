@@ -15,6 +15,6 @@ loop-x-again c =
     let ps = vec-items (c .loop-x .places) in
     elim (c .if-has .came) [
       | then-has·in-Continue-push-signed w ↦
-        ap vec-items (w .places-is) ∙ w .in-Continue-push-signed .ensures tt ∙ held-in facts (c .args .negative) (length facts - 1) (c .loop-x .x) ps (c .loop-x .inv) (w .if-has .ensures tt)
+          ap vec-items (w .places-is) ∙ w .in-Continue-push-signed .ensures tt ∙ held-in facts (c .args .negative) (length facts - 1) (c .loop-x .x) ps (c .loop-x .inv) (w .if-has .ensures tt)
       | else-has w ↦ ap vec-items (w .places-is) ∙ held-out facts (c .args .negative) (length facts - 1) (c .loop-x .x) ps (c .loop-x .inv) (w .if-has .ensures tt)
     ]

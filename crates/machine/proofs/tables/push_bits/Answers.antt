@@ -18,8 +18,8 @@ loop-r-again c =
     let left = bitPlaces [] rows (r + 1) (drop (r + 1) rows) in
     elim (c .if-is-bit .came) [
       | then-is-bit·in-Continue-push w ↦
-        ap (λ l. l ++ left) (ap vec-items (w .places-is) ∙ w .in-Continue-push .ensures tt .items ∙ ap (λ (p : Place). ps ++ (p ∷ [])) (w .at .ensures))
-        ∙ bits-in rows r (c .loop-r-test .taken) ps (w .if-is-bit .ensures tt) ∙ c .loop-r .inv
+          ap (λ l. l ++ left) (ap vec-items (w .places-is) ∙ w .in-Continue-push .ensures tt .items ∙ ap (λ (p : Place). ps ++ (p ∷ [])) (w .at .ensures))
+          ∙ bits-in rows r (c .loop-r-test .taken) ps (w .if-is-bit .ensures tt) ∙ c .loop-r .inv
       | else-is-bit w ↦ ap (λ l. l ++ left) (ap vec-items (w .places-is)) ∙ bits-out rows r (c .loop-r-test .taken) ps (w .if-is-bit .ensures tt) ∙ c .loop-r .inv
     ]
 

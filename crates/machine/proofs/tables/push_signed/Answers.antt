@@ -14,9 +14,9 @@ loop-i-again c =
     let now = vec-items (c .loop-i .places) in
     elim (c .if-has-wanted .came) [
       | then-has-wanted·in-Continue-push w ↦
-        ap vec-items (w .places-is) ∙ w .in-Continue-push .ensures tt .items
-        ∙ signed-in (c .args .wanted) (c .args .signs) (c .args .r .0) (c .args .part) (c .loop-i .i) entry now (c .has .result) (c .loop-i .inv) (c .has .ensures) (w .if-has-wanted .taken)
+          ap vec-items (w .places-is) ∙ w .in-Continue-push .ensures tt .items
+          ∙ signed-in (c .args .wanted) (c .args .signs) (c .args .r .0) (c .args .part) (c .loop-i .i) entry now (c .has .result) (c .loop-i .inv) (c .has .ensures) (w .if-has-wanted .taken)
       | else-has-wanted w ↦
-        ap vec-items (w .places-is)
-        ∙ signed-out (c .args .wanted) (c .args .signs) (c .args .r .0) (c .args .part) (c .loop-i .i) entry now (c .has .result) (c .loop-i .inv) (c .has .ensures) (w .if-has-wanted .left)
+          ap vec-items (w .places-is)
+          ∙ signed-out (c .args .wanted) (c .args .signs) (c .args .r .0) (c .args .part) (c .loop-i .i) entry now (c .has .result) (c .loop-i .inv) (c .has .ensures) (w .if-has-wanted .left)
     ]

@@ -64,13 +64,17 @@ ghost-result c =
     let held-types = c .in-Continue-types .ensures tt .made .0 ∙ c .types .ensures in
     let held-rows = c .in-Continue-rows .ensures tt .made .0 ∙ c .rows .ensures in
     let known : facts ≡ map (factsAt es rows) (numbers 0 (length rows)) =
-      c .in-Continue-facts .ensures tt
-      ∙ ap₂ (λ (l : List TypeEntry) (r : List Row). map (factsAt l r) (numbers 0 (length r))) (c .as-slice .ensures .value) (c .as-slice-2 .ensures .value) in
+    c .in-Continue-facts .ensures tt
+    ∙ ap₂ (λ (l : List TypeEntry) (r : List Row). map (factsAt l r) (numbers 0 (length r))) (c .as-slice .ensures .value) (c .as-slice-2 .ensures .value) in
     let some : 0 < length rows = omega (arith, accepts e .some, ap length (c .as-slice-2 .ensures .value)) in (
       ap₂ valid held-types held-rows ∙ c .args .holder .now .accepted,
-      (known,
-      (c .in-Continue-starts .ensures tt ∙ ap₂ startsBy (c .as-slice-3 .ensures .value) (c .as-slice-4 .ensures .value) ∙ starts-are es rows facts known some,
-      (c .in-Continue-ends .ensures tt ∙ ap (λ (l : List RowFacts). signedAt l false (length l - 1)) (c .as-slice-5 .ensures .value) ∙ ends-are es rows facts known some, tt))),
+      (
+        known,
+        (
+          c .in-Continue-starts .ensures tt ∙ ap₂ startsBy (c .as-slice-3 .ensures .value) (c .as-slice-4 .ensures .value) ∙ starts-are es rows facts known some,
+          (c .in-Continue-ends .ensures tt ∙ ap (λ (l : List RowFacts). signedAt l false (length l - 1)) (c .as-slice-5 .ensures .value) ∙ ends-are es rows facts known some, tt),
+        ),
+      ),
     )
 
 pub returns : need.returns
@@ -80,5 +84,5 @@ returns c =
     record {
       copied = (held-types, held-rows);
       theory = theory (vec-items (c .in-Continue-types .types)) (vec-items (c .in-Continue-rows .rows))
-        (accepted-from-valid _ _ (ap₂ valid held-types held-rows ∙ c .args .holder .now .accepted));
+          (accepted-from-valid _ _ (ap₂ valid held-types held-rows ∙ c .args .holder .now .accepted));
     }
