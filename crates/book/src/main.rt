@@ -1,4 +1,6 @@
 // Prints what is known of the derivation on standard input before anything moves.
+#![tactic(auto)]
+
 ghost use Rattle.std.specs.Prelude.{◌≤◌, length, IfOk};
 
 use std::io;

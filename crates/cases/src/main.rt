@@ -1,5 +1,7 @@
 // Runs each case of its standard input and compares: bytes in hexadecimal (a dash for none), a tab, and what is said of
 // them, with a semicolon for each line end but the last.
+#![tactic(auto)]
+
 use std::alloc::{AllocError, Global};
 use std::io;
 use text::forecast::forecast;

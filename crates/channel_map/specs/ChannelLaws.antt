@@ -280,8 +280,8 @@ fitting_stops n (c ∷ cs) h = ⊎_elim
     (λ e. let f = cond-true (nat_lt c n) (suc (fitting n cs)) 0 e in rw f (fitting_stops n cs (omega (arith, f))))
     (λ e. let f = cond-false (nat_lt c n) (suc (fitting n cs)) 0 e in rw f (ltb-false c n e)) (cases_Bool (nat_lt c n))
 
-pub greatest-width : GreatestWidth
-greatest-width n entries = ((λ w h. (fitting-low n entries w h).1), fitting_stops n entries)
+pub greatest_width : GreatestWidth
+greatest_width n entries = ((λ w h. (fitting-low n entries w h).1), fitting_stops n entries)
 
 -- sets by a table
 

@@ -5,4 +5,4 @@ pub record Laws : Type 0 where
   pub own_channels : OwnChannels
   pub renames_down : RenamesDown
   pub renames_up : RenamesUp
-  pub greatest-width : GreatestWidth
+  pub greatest_width : GreatestWidth

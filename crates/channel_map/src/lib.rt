@@ -1,4 +1,6 @@
 // A channel map: a target whose wires are the channels of the target beneath, by another order.
+#![tactic(auto)]
+
 pub mod channels;
 pub mod laws;
 

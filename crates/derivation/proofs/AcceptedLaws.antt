@@ -16,7 +16,7 @@ use Rattle.derivation.specs.Trees.{Tree, qubit, arrow, pair, power, tree, types_
 use Rattle.derivation.specs.Rows.{premises, binders, introduced, gathered, less, environments, taken, none_in, all_in, binds_free, fits}
 use Rattle.derivation.specs.Rows.{no_row, type_at, is_node, row_fault, row_of, record_of, unused_fault}
 use Rattle.derivation.specs.Judgements.{Judgement, ◌⊢◌, Apart, rule_at, tree_at, judged, Follows}
-use Rattle.derivation.specs.Judgements.{Infers, variable, zero_bit, one_bit, gate, abstraction, pair-abstraction, application, pairing}
+use Rattle.derivation.specs.Judgements.{Infers, variable, zero_bit, one_bit, gate, abstraction, pair_abstraction, application, pairing}
 use Rattle.derivation.specs.Places.{wires}
 use Rattle.derivation.specs.Accepted.{Table, Accepted, rows_fault, valid}
 use Rattle.derivation.proofs.FaultLaws.{cond_none, or_else_both, or_else_none, none_from, none_to}
@@ -58,7 +58,7 @@ inverted of k zero_bit = (tt, refl)
 inverted of k one_bit = (tt, refl)
 inverted of k gate = (tt, refl)
 inverted of k (abstraction h) = (h, refl)
-inverted of k (pair-abstraction x y d) = ((x, y, d), refl)
+inverted of k (pair_abstraction x y d) = ((x, y, d), refl)
 inverted of k (application a) = (tt, refl)
 inverted of k (pairing a) = (tt, refl)
 
@@ -115,7 +115,7 @@ module _ (of : ℕ → Tree) (envs : List ℕ) where
   inferred k One e b a t = restated of k _ _ _ _ _ _ e t one_bit
   inferred k (Gate g) e b a t = restated of k _ _ _ _ _ _ e t gate
   inferred k (Lambda p x) e b a t = restated of k _ _ _ _ _ _ e t (abstraction b)
-  inferred k (PairLambda p x y) e b a t = restated of k _ _ _ _ _ _ e t (pair-abstraction b.0 b.1 b.2)
+  inferred k (PairLambda p x y) e b a t = restated of k _ _ _ _ _ _ e t (pair_abstraction b.0 b.1 b.2)
   inferred k (Apply f a) e b d t =
       subst (λ c. Infers of k (Apply f a) ((get_or envs f.0 0 ⊢ c) ∷ stated envs of a.0 ∷ []) (stated envs of k)) (sym t)
       (restated of k _ _ _ _ _ _ e refl (application (d f.0 a.0 refl)))

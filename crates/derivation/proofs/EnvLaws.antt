@@ -10,7 +10,7 @@ use Rattle.derivation.specs.Sets.{has}
 use Rattle.derivation.specs.Trees.{Tree}
 use Rattle.derivation.specs.Rows.{premises, binders, all_below}
 use Rattle.derivation.specs.Judgements.{Judgement, rule_at, judged, Follows}
-use Rattle.derivation.specs.Judgements.{Infers, variable, zero_bit, one_bit, gate, abstraction, pair-abstraction, application, pairing}
+use Rattle.derivation.specs.Judgements.{Infers, variable, zero_bit, one_bit, gate, abstraction, pair_abstraction, application, pairing}
 use Rattle.derivation.proofs.RowLaws.{env-low}
 
 -- what a rule binds is in the environments of its premises
@@ -21,7 +21,7 @@ binders_in zero_bit n all = refl
 binders_in one_bit n all = refl
 binders_in gate n all = refl
 binders_in (abstraction {x = x} h) n all = and_from _ _ (lt-ltb x.0 n (all.0 x.0 h)) refl
-binders_in (pair-abstraction {x = x} {y = y} hx hy ne) n all =
+binders_in (pair_abstraction {x = x} {y = y} hx hy ne) n all =
     and_from _ _ (lt-ltb x.0 n (all.0 x.0 hx)) (and_from _ _ (lt-ltb y.0 n (all.0 y.0 hy)) refl)
 binders_in (application h) n all = refl
 binders_in (pairing h) n all = refl

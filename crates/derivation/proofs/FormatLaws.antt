@@ -128,7 +128,7 @@ nothing_left total (b ∷ bs) e = let z : ◌≡◌ {A = ℕ} 0 1 = cc in absurd
 record Pieces (bytes : List ℕ) (p : Parsed) : Type 0 where
   header : Header bytes
   middle : List ℕ
-  types-cut : cut type_length front_type (length bytes) (get_or bytes 3 0) (drop 5 bytes) ≡ Ok (record { items = p.types; rest = middle })
+  types_cut : cut type_length front_type (length bytes) (get_or bytes 3 0) (drop 5 bytes) ≡ Ok (record { items = p.types; rest = middle })
   rows_cut : cut row_length front_row (length bytes) (get_or bytes 4 0) middle ≡ Ok (record { items = p.records; rest = [] })
 
 -- behind the header and the types
@@ -144,7 +144,7 @@ pieces_from_rows bytes p h ts et e =
     record {
       header = h;
       middle = ts.rest;
-      types-cut = et ∙ ap (λ q. Ok (record { items = q.types; rest = ts.rest })) same;
+      types_cut = et ∙ ap (λ q. Ok (record { items = q.types; rest = ts.rest })) same;
       rows_cut = c.1 ∙ ap₂ (λ q l. Ok (record { items = q.records; rest = l })) same (nothing_left (length bytes) c.0.rest d.0);
     }
 
@@ -158,7 +158,7 @@ pieces_from_parse bytes p e =
 
 parse-from_pieces : (bytes : List ℕ) (p : Parsed) → Pieces bytes p → parse bytes ≡ Ok p
 unfolding parse
-parse-from_pieces bytes p x = rw (none_from_header bytes x.header, x.types-cut, x.rows_cut) refl
+parse-from_pieces bytes p x = rw (none_from_header bytes x.header, x.types_cut, x.rows_cut) refl
 
 -- bytes whose header says what there is, and whose rest is the records, are written so
 encode-from-header : (bytes : List ℕ) (es : List TypeEntry) (rows : List Row) → Header bytes → get_or bytes 2 0 < 256 →
@@ -177,9 +177,9 @@ encode-from_pieces : (bytes : List ℕ) (p : Parsed) → get_or bytes 2 0 < 256 
     map record_of (map row_of p.records) ≡ p.records → bytes ≡ encode p.types (map row_of p.records)
 encode-from_pieces bytes p low x known =
     encode-from-header bytes p.types (map row_of p.records) x.header low
-    (cut-length type_length front_type (length bytes) _ _ _ x.types-cut)
+    (cut-length type_length front_type (length bytes) _ _ _ x.types_cut)
     (length-map p.records row_of ∙ cut-length row_length front_row (length bytes) _ _ _ x.rows_cut)
-    (cut-sound types_exact (length bytes) _ _ _ x.types-cut (map-id _ ∙ map-id _)
+    (cut-sound types_exact (length bytes) _ _ _ x.types_cut (map-id _ ∙ map-id _)
     ∙ ap₂ (λ es l. flat_map type_bytes es ++ l) (map-id p.types)
     (cut-sound rows_exact (length bytes) _ _ _ x.rows_cut known ∙ append-nil _))
 
@@ -187,7 +187,7 @@ encode-from_pieces bytes p low x known =
 pieces_valid : (bytes : List ℕ) (p : Parsed) → Pieces bytes p → map record_of (map row_of p.records) ≡ p.records →
     fault p.types p.records ≡ None → valid p.types (map row_of p.records) ≡ true
 pieces_valid bytes p x known e =
-    let t = cut-length type_length front_type (length bytes) _ _ _ x.types-cut in
+    let t = cut-length type_length front_type (length bytes) _ _ _ x.types_cut in
     let r = length-map p.records row_of ∙ cut-length row_length front_row (length bytes) _ _ _ x.rows_cut in
     valid-from p.types (map row_of p.records) (omega arith) (omega arith) (omega arith) (ap (fault p.types) known ∙ e)
 
@@ -229,7 +229,7 @@ encode_pieces es rows t s r =
     record {
       header = encode-header es rows t s r;
       middle = flat_map row_bytes rows;
-      types-cut =
+      types_cut =
           cut_complete types_exact total es (flat_map row_bytes rows)
           ∙ ap (λ l. Ok (record { items = l; rest = flat_map row_bytes rows })) (map-id es);
       rows_cut =
@@ -248,7 +248,7 @@ read_complete es rows v =
 pub parse-counts : (bytes : List ℕ) (p : Parsed) → parse bytes ≡ Ok p → (length p.types ≤ 64) × (0 < length p.records) × (length p.records ≤ 128)
 parse-counts bytes p e =
     let x = pieces_from_parse bytes p e in
-    let t = cut-length type_length front_type (length bytes) _ _ _ x.types-cut in
+    let t = cut-length type_length front_type (length bytes) _ _ _ x.types_cut in
     let r = cut-length row_length front_row (length bytes) _ _ _ x.rows_cut in
     let h = x.header in
     (omega arith, omega arith, omega arith)

@@ -29,7 +29,7 @@ module _ {es : List TypeEntry} {sizes : List Size} {rows : List Row} {envs : Lis
       ltb-false (length es) (type_at rows r) (cond_none _ _ _ fault).0
 
   pub sound-small : (t : ℕ) → t ≤ length es → atoms (tree es t) ≤ 16
-  sound-small = (table-from es s.few-types s.types_pass).small
+  sound-small = (table-from es s.few_types s.types_pass).small
 
   -- the environment of the last row
   pub sound-env : get_or envs (length rows - 1) 0 ≡ env_at rows (length rows - 1)
@@ -38,7 +38,7 @@ module _ {es : List TypeEntry} {sizes : List Size} {rows : List Row} {envs : Lis
   -- all checks have passed
   pub sound-valid : whole_fault es rows ≡ None → valid es rows ≡ true
   sound-valid w =
-      valid-from es rows s.few-types s.some-rows s.few-rows
+      valid-from es rows s.few_types s.some_rows s.few_rows
       (or_else_none _ _ s.types_pass ∙ or_else_none _ _ s.rows_pass ∙ ap (whole_fault es) (rows-again rows) ∙ w)
 
   pub sound_accepted : whole_fault es rows ≡ None → Accepted es rows
@@ -54,9 +54,9 @@ pub sound-from : (es : List TypeEntry) (records : List Record) (sizes : List Siz
 sound-from es records sizes rows envs m few some many t r s k =
     let long = ap length k.same ∙ length-map records row_of in
     record {
-      few-types = few;
-      some-rows = omega arith;
-      few-rows = omega arith;
+      few_types = few;
+      some_rows = omega arith;
+      few_rows = omega arith;
       types_pass = t;
       rows_pass = ap (λ l. rows_fault es (map record_of l)) k.same ∙ ap (rows_fault es) (rows-known es [] records r) ∙ r;
       sized = s;

@@ -154,8 +154,8 @@ module _ (es : List TypeEntry) where
 
 -- entry t with no fault, behind the entries before it
 record Sound (es : List TypeEntry) (t : ℕ) (e : TypeEntry) : Type 0 where
-  left-low : e.left.0 ≤ t
-  right-low : e.right.0 ≤ t
+  left_low : e.left.0 ≤ t
+  right_low : e.right.0 ≤ t
   new : listed (take t es) e ≡ false
   light : atoms (unfolded (trees (take t es)) e) ≤ 16
 
@@ -167,8 +167,8 @@ module _ (es : List TypeEntry) where
       let (new, f2) = cond_none _ _ _ f1 in
       let (left, right) = or_parts (leb (suc (length (take t es))) e.left.0) _ high in
       record {
-        left-low = omega (arith, leb-false _ _ left);
-        right-low = omega (arith, leb-false _ _ right);
+        left_low = omega (arith, leb-false _ _ left);
+        right_low = omega (arith, leb-false _ _ right);
         new = new;
         light = ltb-false _ _ (cond_none _ _ _ f2).0;
       }
@@ -176,8 +176,8 @@ module _ (es : List TypeEntry) where
   sound_to : (t : ℕ) (e : TypeEntry) → t ≤ length es → Sound es t e → type_fault (take t es) e ≡ None
   sound_to t e h s =
       let n = length-take-le t es h in
-      let l : e.left.0 < suc (length (take t es)) = omega (arith, s.left-low) in
-      let r : e.right.0 < suc (length (take t es)) = omega (arith, s.right-low) in
+      let l : e.left.0 < suc (length (take t es)) = omega (arith, s.left_low) in
+      let r : e.right.0 < suc (length (take t es)) = omega (arith, s.right_low) in
       cond-false _ _ _ (or_from _ _ (lt-leb _ _ l) (lt-leb _ _ r))
       ∙ cond-false _ _ _ s.new
       ∙ cond-false _ _ _ (le-ltb _ _ s.light)
@@ -196,7 +196,7 @@ module _ (es : List TypeEntry) where
   -- a table keeps its rules exactly if it has no fault
   pub table-from : length es ≤ 64 → types_fault es ≡ None → Table es
   table-from few f =
-      let low : Lower es = λ t h d. ((sounds_from f t d h).left-low, (sounds_from f t d h).right-low) in
+      let low : Lower es = λ t h d. ((sounds_from f t d h).left_low, (sounds_from f t d h).right_low) in
       record {
         few = few;
         lower = low;
@@ -210,8 +210,8 @@ module _ (es : List TypeEntry) where
 
   pub table_to : Table es → types_fault es ≡ None
   table_to table = sounds_to (λ t h. record {
-    left-low = (table.lower t h no_entry).0;
-    right-low = (table.lower t h no_entry).1;
+    left_low = (table.lower t h no_entry).0;
+    right_low = (table.lower t h no_entry).1;
     new = fresh_to es (distinct_to es table.lower table.distinct) t h;
     light = subst (λ a. atoms a ≤ 16) (tree-unfolded es t no_entry h) (table.small (suc t) h);
   })

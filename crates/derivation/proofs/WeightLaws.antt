@@ -9,7 +9,7 @@ use Rattle.derivation.specs.Sets.{has, only, union, without}
 use Rattle.derivation.specs.Trees.{Tree, qubit, arrow, pair, atoms}
 use Rattle.derivation.specs.Rows.{premises, binders, introduced, all_below}
 use Rattle.derivation.specs.Judgements.{Judgement, Apart, rule_at, env_at, judged, Follows}
-use Rattle.derivation.specs.Judgements.{Infers, variable, zero_bit, one_bit, gate, abstraction, pair-abstraction, application, pairing}
+use Rattle.derivation.specs.Judgements.{Infers, variable, zero_bit, one_bit, gate, abstraction, pair_abstraction, application, pairing}
 use Rattle.derivation.specs.Weights.{weight, positives}
 use Rattle.derivation.proofs.SetLaws.{has_none, has-only, has-union, has-without}
 
@@ -103,7 +103,7 @@ weight_infers gate f n l = refl
 weight_infers (abstraction {x = x} {m = m} h) f n l =
     let below = ltb-true x.0 n (and_parts _ _ l).0 in
     omega (arith, weight_none f n, weight-without m x.0 n f h below)
-weight_infers (pair-abstraction {x = x} {y = y} {m = m} hx hy ne) f n l =
+weight_infers (pair_abstraction {x = x} {y = y} {m = m} hx hy ne) f n l =
     let parts = and_parts _ _ l in
     let below-x = ltb-true x.0 n parts.0 in
     let below-y = ltb-true y.0 n (and_parts _ _ parts.1).0 in

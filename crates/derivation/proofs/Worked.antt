@@ -17,13 +17,13 @@ new-valid : valid [] (zero_row ∷ []) ≡ true
 unfolding valid first_fault grown trees environments taken given places has only union without
 new-valid = refl
 
-new-wires : wires [] (zero_row ∷ []) ≡ 1
+new_wires : wires [] (zero_row ∷ []) ≡ 1
 unfolding given grown trees environments has only union without
-new-wires = refl
+new_wires = refl
 
-new-moves : moves [] (zero_row ∷ []) ≡ 0
+new_moves : moves [] (zero_row ∷ []) ≡ 0
 unfolding given places grown trees environments has only union without
-new-moves = refl
+new_moves = refl
 
 new_envs : environments (zero_row ∷ []) ≡ 0 ∷ []
 unfolding environments grown
@@ -32,18 +32,18 @@ new_envs = refl
 -- the same of lists that are known to be these
 pub new-facts : (es : List TypeEntry) (rows : List Row) → es ≡ [] → rows ≡ zero_row ∷ [] → (valid es rows ≡ true) × (1 ≡ wires es rows) × (0 ≡ gate_rows rows) × (0 ≡ moves es rows) × (0 ∷ [] ≡ environments rows)
 new-facts es rows te re =
-    (ap₂ valid te re ∙ new-valid, sym (ap₂ wires te re ∙ new-wires), sym (ap gate_rows re), sym (ap₂ moves te re ∙ new-moves), sym (ap environments re ∙ new_envs))
+    (ap₂ valid te re ∙ new-valid, sym (ap₂ wires te re ∙ new_wires), sym (ap gate_rows re), sym (ap₂ moves te re ∙ new_moves), sym (ap environments re ∙ new_envs))
 
 -- what the definitions compute to on numerals
 pub examples : Examples
 unfolding derivation_of parse cut valid first_fault grown trees environments taken given places has only union without
 examples = record {
   empty_input = refl;
-  bell-counts = refl;
+  bell_counts = refl;
   bell_twice = refl;
-  new-wires = refl;
-  new-moves = refl;
-  hx-counts = refl;
-  swap-counts = refl;
-  cx-counts = refl;
+  new_wires = refl;
+  new_moves = refl;
+  hx_counts = refl;
+  swap_counts = refl;
+  cx_counts = refl;
 }

@@ -68,9 +68,9 @@ pub record Accepted (es : List TypeEntry) (rows : List Row) : Type 0 where
 
 -- what reading knows of a derivation once its types and each of its rows have passed
 pub record Sound (es : List TypeEntry) (sizes : List Size) (rows : List Row) (envs : List ℕ) (premised : ℕ) : Type 0 where
-  pub few-types : length es ≤ 64
-  pub some-rows : 0 < length rows
-  pub few-rows : length rows ≤ 128
+  pub few_types : length es ≤ 64
+  pub some_rows : 0 < length rows
+  pub few_rows : length rows ≤ 128
   pub types_pass : types_fault es ≡ None
   pub rows_pass : rows_fault es (map record_of rows) ≡ None
   pub sized : sizes ≡ map size_of (trees es)

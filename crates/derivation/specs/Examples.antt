@@ -49,10 +49,10 @@ cx =
 -- what the worked derivations come to
 pub record Examples : Type 0 where
   pub empty_input : refusal_of (derivation_of []) ≡ 1 ∷ 1 ∷ 0 ∷ []
-  pub bell-counts : counts_of (derivation_of (bell 5)) ≡ 0 ∷ 2 ∷ 2 ∷ 10 ∷ []
+  pub bell_counts : counts_of (derivation_of (bell 5)) ≡ 0 ∷ 2 ∷ 2 ∷ 10 ∷ []
   pub bell_twice : refusal_of (derivation_of (bell 4)) ≡ 12 ∷ 3 ∷ 6 ∷ []
-  pub new-wires : wires [] (zero_row ∷ []) ≡ 1
-  pub new-moves : moves [] (zero_row ∷ []) ≡ 0
-  pub hx-counts : counts_of (derivation_of hx) ≡ 1 ∷ 1 ∷ 1 ∷ 5 ∷ []
-  pub swap-counts : counts_of (derivation_of swap) ≡ 2 ∷ 2 ∷ 0 ∷ 10 ∷ []
-  pub cx-counts : counts_of (derivation_of cx) ≡ 0 ∷ 2 ∷ 1 ∷ 7 ∷ []
+  pub new_wires : wires [] (zero_row ∷ []) ≡ 1
+  pub new_moves : moves [] (zero_row ∷ []) ≡ 0
+  pub hx_counts : counts_of (derivation_of hx) ≡ 1 ∷ 1 ∷ 1 ∷ 5 ∷ []
+  pub swap_counts : counts_of (derivation_of swap) ≡ 2 ∷ 2 ∷ 0 ∷ 10 ∷ []
+  pub cx_counts : counts_of (derivation_of cx) ≡ 0 ∷ 2 ∷ 1 ∷ 7 ∷ []

@@ -31,7 +31,7 @@ pub data Infers (of : ℕ → Tree) (k : ℕ) : Rule → List Judgement → Judg
   one_bit : Infers of k One [] (0 ⊢ qubit)
   gate : {g : GateName} → Infers of k (Gate g) [] (0 ⊢ arrow (power (arity g)) (power (arity g)))
   abstraction : {p x : RowId} {m : ℕ} {c : Tree} → has m x.0 ≡ true → Infers of k (Lambda p x) ((m ⊢ c) ∷ []) (without m x.0 ⊢ arrow (of x.0) c)
-  pair-abstraction : {p x y : RowId} {m : ℕ} {c : Tree} → has m x.0 ≡ true → has m y.0 ≡ true → (x.0 ≢ y.0) → Infers of k (PairLambda p x y) ((m ⊢ c) ∷ []) (without (without m x.0) y.0 ⊢ arrow (pair (of x.0) (of y.0)) c)
+  pair_abstraction : {p x y : RowId} {m : ℕ} {c : Tree} → has m x.0 ≡ true → has m y.0 ≡ true → (x.0 ≢ y.0) → Infers of k (PairLambda p x y) ((m ⊢ c) ∷ []) (without (without m x.0) y.0 ⊢ arrow (pair (of x.0) (of y.0)) c)
   application : {f a : RowId} {m n : ℕ} {s c : Tree} → Apart m n → Infers of k (Apply f a) ((m ⊢ arrow s c) ∷ (n ⊢ s) ∷ []) (union m n ⊢ c)
   pairing : {l r : RowId} {m n : ℕ} {s c : Tree} → Apart m n → Infers of k (Pair l r) ((m ⊢ s) ∷ (n ⊢ c) ∷ []) (union m n ⊢ pair s c)
 

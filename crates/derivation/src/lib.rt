@@ -1,4 +1,6 @@
 // Derivations of the linear quantum lambda calculus: read from bytes, checked, held and written back.
+#![tactic(auto)]
+
 mod bytes;
 mod check;
 mod count;

@@ -157,11 +157,11 @@ seats_three (a ∷ b ∷ x ∷ vs) d e = refl
 
 -- each wire
 
-pub meets-each : MeetsEach
-meets-each g ws s w h =
+pub meets_each : MeetsEach
+meets_each g ws s w h =
     let m : Met = record { gate = g; wires = ws } in
     let before : List Met = get_or s.met w [] in
     meets_at m 0 s.met w h ∙ ap (λ (v : ℕ). cond (shares v ws) (before ++ m ∷ []) before) (zero-add w)
 
-pub met_by-records : MetByRecords
-met_by-records ms used given ones w h = by_wire_at ms 0 32 w h ∙ ap (λ (v : ℕ). meetings v ms) (zero-add w)
+pub met_by_records : MetByRecords
+met_by_records ms used given ones w h = by_wire_at ms 0 32 w h ∙ ap (λ (v : ℕ). meetings v ms) (zero-add w)

@@ -2,5 +2,5 @@
 use Rattle.gate_list.specs.GateList.{MeetsEach, MetByRecords}
 
 pub record Laws : Type 0 where
-  pub meets-each : MeetsEach
-  pub met_by-records : MetByRecords
+  pub meets_each : MeetsEach
+  pub met_by_records : MetByRecords

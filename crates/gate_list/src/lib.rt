@@ -1,4 +1,6 @@
 // A gate list: it writes each gate down as it is applied.
+#![tactic(auto)]
+
 pub mod laws;
 
 ghost use Rattle.std.specs.Prelude.{◌≡◌, ◌≤◌, take};

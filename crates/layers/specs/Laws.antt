@@ -11,6 +11,6 @@ BellLayers =
     (slice_index after 0 ≡ 2) × (slice_index after 1 ≡ 2)
 
 pub record Laws : Type 0 where
-  pub layers-each : LayersEach
+  pub layers_each : LayersEach
   pub greatest_bounds : GreatestBounds
-  pub bell-layers : BellLayers
+  pub bell_layers : BellLayers

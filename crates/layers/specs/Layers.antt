@@ -1,5 +1,5 @@
 -- Layers: a number for each wire; a gate sets its wires to one more than their greatest.
-use Rattle.std.specs.Prelude.{◌≡◌, ℕ, suc, ◌<◌, ◌≤◌, max, true, cond, List, [], ◌∷◌, length, set, replicate, Some, None, Option, nat_lt, slice_index, slice_set}
+use Rattle.std.specs.Prelude.{◌≡◌, ℕ, suc, ◌<◌, ◌≤◌, max, true, cond, List, [], ◌∷◌, length, replicate, Some, None, Option, nat_lt, slice_index, slice_set}
 use Rattle.basics.specs.declared.gate.Gate.{Gate}
 use Rattle.target.specs.Interface.{shares}
 

@@ -1,5 +1,5 @@
 -- Laws of layers: how deep they are after a gate, and that gates without a common wire commute.
-use Rattle.std.specs.Prelude.{◌≡◌, ℕ, zero, suc, ◌<◌, ◌≤◌, max, true, false, List, [], ◌∷◌, length, set, replicate, ◌==◌, slice_index, slice_set, refl}
+use Rattle.std.specs.Prelude.{◌≡◌, ℕ, zero, suc, ◌<◌, ◌≤◌, max, true, false, List, [], ◌∷◌, length, replicate, ◌==◌, slice_index, slice_set, refl}
 use Rattle.std.proofs.Common.{sym, ◌∙◌, ap, ⊎_elim, arith}
 use Rattle.std.proofs.lemmas.List.{get_or-set_same, get_or-set_other, length-set, set_comm}
 use Rattle.std.proofs.lemmas.Bool.{eqb-true, eqb-false, both_ways, cases_Bool, cond-true, cond-false}
@@ -60,8 +60,8 @@ get_d_set_here n v s (w ∷ ws) h e = ⊎_elim
     get_or-set-all n v (slice_set s w n) ws f ∙ ap (λ k. slice_index (slice_set s k n) v) (sym same) ∙ get_or-set_same s v n 0 h)
     (cases_Bool (shares v ws))
 
-pub layers-each : LayersEach
-layers-each g ws s w h = ⊎_elim
+pub layers_each : LayersEach
+layers_each g ws s w h = ⊎_elim
     (λ t. get_d_set_here (suc (greatest s ws)) w s ws h t ∙ sym (cond-true (shares w ws) (suc (greatest s ws)) (slice_index s w) t))
     (λ f. get_or-set-all (suc (greatest s ws)) w s ws f ∙ sym (cond-false (shares w ws) (suc (greatest s ws)) (slice_index s w) f))
     (cases_Bool (shares w ws))
@@ -117,5 +117,5 @@ layered_commutes f g s vs ws e =
     ∙ ap (λ k. set_all (set_all s vs m) ws (suc k)) (sym (greatest_other m s vs ws e))
 
 -- Bell's gates, by computation
-pub bell-layers : BellLayers
-bell-layers s = (refl, refl)
+pub bell_layers : BellLayers
+bell_layers s = (refl, refl)

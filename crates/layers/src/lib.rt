@@ -1,4 +1,6 @@
 // Layers: the depth of the circuit on each wire.
+#![tactic(auto)]
+
 pub mod laws;
 
 ghost use Rattle.std.specs.Prelude.{◌≡◌, ℕ, ◌≤◌, true, List, replicate, slice_index};

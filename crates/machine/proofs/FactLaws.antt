@@ -1,5 +1,5 @@
 -- What the code learns while it gathers the facts of types and rows.
-use Rattle.std.proofs.Common.{◌≡◌, ℕ, zero, suc, ◌+◌, ◌-◌, ◌^◌, ◌<◌, ◌≤◌, Bool, true, false, cond, not, ◌&&◌, ◌||◌, eqb, ltb, List, [], ◌∷◌, ◌++◌, map, length, get_or, take, drop, set, replicate, sym, refl, ap, ◌∙◌, subst, ap₂, ⊎_elim, add-zero, add-suc, suc-add, zero-add, add-one, arith}
+use Rattle.std.proofs.Common.{◌≡◌, ℕ, zero, suc, ◌+◌, ◌-◌, ◌^◌, ◌<◌, ◌≤◌, Bool, true, false, cond, ◌||◌, eqb, List, [], ◌∷◌, ◌++◌, map, length, get_or, take, drop, set, replicate, sym, refl, ap, ◌∙◌, subst, ap₂, ⊎_elim, add-zero, add-suc, suc-add, zero-add, add-one, arith}
 use mathlib.Core.Path.{subst⁻¹}
 use Rattle.std.proofs.lemmas.List.{get_or-map, length-map, map_push, take_more, drop_more, drop_all, length-set, length-take-le, get_or-set_same, get_or-set_other, get_or-replicate}
 use Rattle.std.proofs.lemmas.Bool.{cases_eq, eq-eqb, ne_eqb}
@@ -7,7 +7,7 @@ use Rattle.derivation.specs.declared.types.TypeKind.{TypeKind}
 use Rattle.derivation.specs.declared.types.TypeKind.TheVariants.{Arrow, Pair}
 use Rattle.derivation.specs.declared.types.TypeEntry.{TypeEntry}
 use Rattle.derivation.specs.declared.rows.Row.{Row}
-use Rattle.derivation.specs.Trees.{Tree, qubit, node, atoms, tree, trees, unfolded, no_entry}
+use Rattle.derivation.specs.Trees.{Tree, qubit, node, atoms, trees, unfolded, no_entry}
 use Rattle.derivation.specs.Rows.{no_row, premises, type_at, all_below}
 use Rattle.derivation.specs.Judgements.{rule_at, tree_at, env_at}
 use Rattle.derivation.specs.Places.{numbers}

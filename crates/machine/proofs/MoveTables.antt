@@ -1,5 +1,5 @@
 -- What the code learns of the rows and places of an accepted derivation.
-use Rattle.std.proofs.Common.{◌≡◌, ℕ, zero, suc, ◌+◌, ◌-◌, ◌<◌, ◌≤◌, Bool, true, false, cond, not, ◌&&◌, ltb, List, [], ◌∷◌, map, length, get_or, Some, None, Option, sym, refl, ap, ◌∙◌, subst, ap₂, ⊎_elim, arith}
+use Rattle.std.proofs.Common.{◌≡◌, ℕ, ◌<◌, ◌≤◌, Bool, true, false, cond, not, ltb, List, [], ◌∷◌, map, length, get_or, None, Option, sym, ap, ◌∙◌, subst, ⊎_elim, arith}
 use mathlib.Core.Path.{subst⁻¹}
 use Rattle.std.proofs.lemmas.List.{get_or_past}
 use Rattle.std.proofs.lemmas.Bool.{and_parts, ltb-true, cases_lt}
@@ -11,18 +11,18 @@ use Rattle.derivation.specs.declared.rows.Part.{Part}
 use Rattle.derivation.specs.declared.rows.Part.TheVariants.{Ty, Variable as Var}
 use Rattle.derivation.specs.declared.rows.Place.{Place}
 use Rattle.derivation.specs.Sets.{has}
-use Rattle.derivation.specs.Trees.{qubit, atoms, positive}
-use Rattle.derivation.specs.Rows.{no_row, type_at, environments}
+use Rattle.derivation.specs.Trees.{qubit, atoms}
+use Rattle.derivation.specs.Rows.{no_row, environments}
 use Rattle.derivation.specs.Judgements.{rule_at, tree_at, env_at}
 use Rattle.derivation.specs.Places.{numbers, negative, negative_in}
-use Rattle.derivation.specs.Accepted.{Accepted, valid}
+use Rattle.derivation.specs.Accepted.{valid}
 use Rattle.derivation.proofs.AcceptedLaws.{accepted_from_valid}
 use Rattle.derivation.proofs.HeldLaws.{width_le}
 use Rattle.derivation.proofs.RowChecks.{length-environments}
 use Rattle.derivation.proofs.TreeLaws.{tree_zero}
 use Rattle.machine.specs.declared.tables.RowFacts.{RowFacts}
 use Rattle.machine.specs.Facts.{signs_of, facts_at, Known}
-use Rattle.theory.specs.Ports.{width, below, part_width, is_place, upward, downward, next}
+use Rattle.theory.specs.Ports.{width, part_width, is_place, upward, downward, next}
 use Rattle.machine.proofs.SignLaws.{signs-has}
 use Rattle.machine.proofs.StartTables.{row_fact-at}
 

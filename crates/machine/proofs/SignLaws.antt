@@ -1,5 +1,5 @@
 -- The signs of a type are its positive atoms.
-use Rattle.std.proofs.Common.{◌≡◌, ℕ, zero, suc, ◌+◌, ◌-◌, ◌*◌, ◌/◌, ◌%◌, ◌^◌, ◌<◌, ◌≤◌, Bool, true, false, cond, not, ◌&&◌, ◌||◌, eqb, ltb, sym, refl, ap, ◌∙◌, subst, ap₂, ⊎_elim, lt_of_lt_of_le, mul_assoc, suc-mul, add_comm, arith, pow_mono}
+use Rattle.std.proofs.Common.{◌≡◌, ℕ, zero, suc, ◌+◌, ◌-◌, ◌*◌, ◌/◌, ◌%◌, ◌^◌, ◌<◌, ◌≤◌, Bool, true, false, cond, not, ◌||◌, eqb, ltb, sym, refl, ap, ◌∙◌, subst, ⊎_elim, lt_of_lt_of_le, mul_assoc, suc-mul, add_comm, arith, pow_mono}
 use native.Mathlib.Nat.{div-eq_of_lt, mul-mod_left}
 use lib.Bits.{bit_or, bit_xor, or_lt, xor_lt, xor_shr, xor_mod}
 use Rattle.std.proofs.lemmas.Nat.{pow_pos, pow-add, shl-shr, shr-shr, shl_below, shr_high, mod_below, mod-mul-add}
@@ -7,7 +7,6 @@ use Rattle.std.proofs.lemmas.Bool.{cases_lt, lt-ltb, le-ltb}
 use Rattle.derivation.specs.Sets.{has, union}
 use Rattle.derivation.specs.Trees.{Tree, qubit, arrow, pair, atoms, positive}
 use Rattle.derivation.proofs.SetLaws.{has-union}
-use Rattle.derivation.proofs.WeightLaws.{atoms_pos}
 use Rattle.machine.specs.Facts.{signs_of}
 
 -- a mask below 2 ^ n has no number from n on

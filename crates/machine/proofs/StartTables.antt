@@ -1,6 +1,5 @@
 -- What the code learns while it lists the places of the last row.
-use Rattle.std.proofs.Common.{◌≡◌, ℕ, zero, suc, ◌+◌, ◌-◌, ◌^◌, ◌<◌, ◌≤◌, Bool, true, false, cond, not, ◌&&◌, ◌||◌, List, [], ◌∷◌, ◌++◌, map, length, get_or, take, drop, sym, refl, ap, ◌∙◌, subst, ap₂, ⊎_elim, add-zero, add-suc, suc-add, zero-add, add-one, arith}
-use mathlib.Core.Path.{subst⁻¹}
+use Rattle.std.proofs.Common.{◌≡◌, ℕ, zero, suc, ◌+◌, ◌-◌, ◌<◌, ◌≤◌, Bool, true, false, cond, not, List, [], ◌∷◌, ◌++◌, map, length, get_or, drop, sym, refl, ap, ◌∙◌, subst, ap₂, add-zero, add-suc, suc-add, zero-add, add-one, arith}
 use mathlib.Core.Bool.{beq}
 use Rattle.std.specs.List.{flat_map}
 use Rattle.std.proofs.lemmas.List.{append-nil, append_assoc, flat_map_more, drop_more, drop_all, length-map, length-append, get_or-map}
@@ -19,7 +18,7 @@ use Rattle.derivation.specs.Judgements.{rule_at, tree_at, env_at}
 use Rattle.derivation.proofs.PlaceLaws.{length-numbers}
 use Rattle.machine.specs.declared.tables.RowFacts.{RowFacts}
 use Rattle.machine.specs.Facts.{agrees, places_to, signed, signs_of, no_facts, facts_at, signed_held, signed_at, starts_by}
-use Rattle.theory.specs.Ports.{at, bit_places, width, last, starts, ends}
+use Rattle.theory.specs.Ports.{at, bit_places, width, starts, ends}
 use Rattle.theory.specs.Tokens.{same_place, wire_at}
 use Rattle.machine.proofs.SignLaws.{signs-has}
 use Rattle.machine.proofs.FactLaws.{numbers_more, map-numbers}

@@ -12,6 +12,6 @@ CxCopies =
     (has after.bits 0 ≡ true) × (has after.bits 1 ≡ true) × (after.phase ≡ 0)
 
 pub record Laws : Type 0 where
-  pub flips-one : FlipsOne
+  pub flips_one : FlipsOne
   pub prepares_each : PreparesEach
   pub cx_copies : CxCopies

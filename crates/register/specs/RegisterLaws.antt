@@ -55,16 +55,16 @@ flip_digit (suc zero) (suc zero) hu hv = refl
 flip_digit (suc zero) (suc (suc v)) hu hv = absurd (omega arith)
 flip_digit (suc (suc u)) v hu hv = absurd (omega arith)
 
-pub flips-one : FlipsOne
+pub flips_one : FlipsOne
 unfolding has
-flips-one bits w v =
+flips_one bits w v =
     ap (λ n. nat_eq (n % 2) 1) (xor_shr bits (only w) v)
     ∙ ap (λ n. nat_eq n 1) (xor_mod (bits / 2 ^ v) (only w / 2 ^ v) 1)
     ∙ flip_digit (bits / 2 ^ v % 2) (only w / 2 ^ v % 2) (mod_below (bits / 2 ^ v) 2 (omega arith)) (mod_below (only w / 2 ^ v) 2 (omega arith))
     ∙ ap (λ b. cond b (not (has bits v)) (has bits v)) (has-only w v)
 
 has-flip : (bits w v : ℕ) → (v == w) ≡ false → has (bit_xor bits (only w)) v ≡ has bits v
-has-flip bits w v h = flips-one bits w v ∙ cond-false (v == w) (not (has bits v)) (has bits v) h
+has-flip bits w v h = flips_one bits w v ∙ cond-false (v == w) (not (has bits v)) (has bits v) h
 
 -- two flips, in either order
 flip-flip : (bits v w : ℕ) → bit_xor (bit_xor bits (only w)) (only v) ≡ bit_xor (bit_xor bits (only v)) (only w)

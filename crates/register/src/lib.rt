@@ -1,4 +1,6 @@
 // The bit register: a bit for each wire, and a phase in eighths of a turn.
+#![tactic(auto)]
+
 pub mod laws;
 
 ghost use Rattle.std.specs.Prelude.{◌≡◌, ℕ, ◌<◌, ◌≤◌, true, if◌then◌else◌, Some, None, nat_lt};

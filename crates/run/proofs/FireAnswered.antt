@@ -1,5 +1,5 @@
 -- The move of a wire whose token is at a seat, as its call makes it.
-use Rattle.std.proofs.Common.{◌≡◌, ℕ, suc, ◌+◌, ◌-◌, ◌^◌, ◌<◌, Bool, List, length, get_or, take, Some, None, Ok, Err, Result, sym, refl, ap, ◌∙◌, subst, arith}
+use Rattle.std.proofs.Common.{◌≡◌, ℕ, ◌+◌, ◌-◌, ◌^◌, ◌<◌, Bool, List, length, get_or, take, Some, None, Ok, Err, Result, sym, ap, ◌∙◌, subst, arith}
 use mathlib.Core.Path.{subst⁻¹}
 use native.Mathlib.Numerals.{suc-eq-add-one}
 use native.Mathlib.Nat.{sub-zero}

@@ -1,5 +1,5 @@
 -- What the facts that a run keeps say of the move of a wire whose token is at a seat.
-use Rattle.std.proofs.Common.{◌≡◌, ℕ, suc, ◌^◌, ◌<◌, ◌≤◌, Bool, true, false, ltb, List, map, length, get_or, take, Some, None, sym, ap, ◌∙◌, subst}
+use Rattle.std.proofs.Common.{◌≡◌, ℕ, suc, ◌^◌, ◌<◌, ◌≤◌, true, false, ltb, List, map, length, get_or, take, Some, None, sym, ap, ◌∙◌, subst}
 use lib.Count.{ones}
 use Rattle.std.proofs.lemmas.Bool.{cond-true, lt-ltb}
 use Rattle.basics.specs.declared.gate.Gate.{Gate as GateName}
@@ -12,7 +12,6 @@ use Rattle.derivation.specs.Judgements.{rule_at}
 use Rattle.derivation.specs.Rows.{all_below}
 use Rattle.machine.specs.declared.machine.Seat.{Seat}
 use Rattle.machine.specs.Calls.{gate_at, gate_in, seat_at}
-use Rattle.theory.specs.Ports.{is_end}
 use Rattle.theory.specs.Tokens.{advanced, is_seat, movable, no_place, seats, together, wire_at}
 use Rattle.theory.proofs.Basics.{none_some}
 use Rattle.theory.proofs.Ways.{seat_facts}

@@ -52,8 +52,8 @@ module _ (es : List TypeEntry) (rows : List Row) (a : Accepted es rows) (tokens 
   stands = ∥∥₁_elim under (Bool-set _ _) (λ (fired, run). run_stand es rows a run w l)
 
   -- the token of a wire is at a place, so it is asked whether that is an end
-  pub at-end : (t : Bool) → t ≡ (is_place es rows p && is_end es rows p) → is_end es rows (get_or tokens w no_place) ≡ t
-  at-end t e = sym (e ∙ ap (λ (q : Place). is_place es rows q && is_end es rows q) is ∙ ap (λ (x : Bool). x && is_end es rows (get_or tokens w no_place)) stands)
+  pub at_end : (t : Bool) → t ≡ (is_place es rows p && is_end es rows p) → is_end es rows (get_or tokens w no_place) ≡ t
+  at_end t e = sym (e ∙ ap (λ (q : Place). is_place es rows q && is_end es rows q) is ∙ ap (λ (x : Bool). x && is_end es rows (get_or tokens w no_place)) stands)
 
   -- and whether it is a seat
   pub no_seat : None ≡ seat_at es rows p → is_seat es rows (get_or tokens w no_place) ≡ false
@@ -67,7 +67,7 @@ pub alone : (es : List TypeEntry) (rows : List Row) (a : Accepted es rows) (toke
     → (w < length tokens) × (is_seat es rows (get_or tokens w no_place) ≡ false) × (is_end es rows (get_or tokens w no_place) ≡ false)
 alone es rows a tokens n under w p told end seat =
     let (l, is) = told_place tokens w p told in
-    (l, no_seat es rows a tokens n under w l p is seat, at-end es rows a tokens n under w l p is false end)
+    (l, no_seat es rows a tokens n under w l p is seat, at_end es rows a tokens n under w l p is false end)
 
 -- a wire that goes on alone, with the books as they are kept after it
 module _ (es : List TypeEntry) (rows : List Row) (a : Accepted es rows) (b : Kept) (n : ℕ) (under : Underway es rows b.tokens n) (kept : ∥ Right es rows b ∥₁) (w : ℕ) (l : w < length b.tokens)

@@ -1,5 +1,5 @@
 -- What a move comes to, case by case.
-use Rattle.std.proofs.Common.{◌≡◌, ℕ, suc, ◌<◌, ◌≤◌, Bool, true, false, cond, not, ◌&&◌, ltb, List, map, length, get_or, Some, None, Ok, Err, Option, Result, sym, refl, ap, ◌∙◌, ap₂}
+use Rattle.std.proofs.Common.{◌≡◌, ℕ, suc, ◌<◌, ◌≤◌, Bool, true, false, not, ltb, List, map, length, get_or, Some, None, Ok, Err, Option, refl, ap, ◌∙◌, ap₂}
 use Rattle.std.proofs.lemmas.Bool.{cond-true, cond-false, lt-ltb, le-ltb}
 use Rattle.basics.specs.declared.gate.Gate.{Gate as GateName}
 use Rattle.basics.specs.declared.refusal.Refusal.{Refusal}
@@ -12,8 +12,8 @@ use Rattle.derivation.specs.declared.rows.Place.{Place}
 use Rattle.derivation.specs.Judgements.{rule_at}
 use Rattle.theory.specs.Ports.{is_end}
 use Rattle.theory.specs.Tokens.{Fired, Moved, advanced, fired_at, gate_fired, is_seat, movable, move, no_place, together, wire_at}
-use Rattle.target.specs.Interface.{View, apply_fault, applied_view}
-use Rattle.run.specs.Calls.{Stage, move_of, moved_to, played}
+use Rattle.target.specs.Interface.{apply_fault, applied_view}
+use Rattle.run.specs.Calls.{Stage, move_of, moved_to}
 
 module _ (es : List TypeEntry) (rows : List Row) (tokens : List Place) (w : ℕ) (h : w < length tokens) where
   -- a token that can move makes the move that it has

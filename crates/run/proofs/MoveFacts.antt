@@ -1,14 +1,13 @@
 -- What the facts that a run keeps say of the next move of a wire.
-use Rattle.std.proofs.Common.{◌≡◌, ℕ, suc, ◌-◌, ◌^◌, ◌<◌, ◌≤◌, Bool, true, false, List, [], ◌++◌, map, length, get_or, take, Some, None, Option, sym, refl, ap, ◌∙◌, subst, ⊎_elim, arith}
+use Rattle.std.proofs.Common.{◌≡◌, ℕ, suc, ◌^◌, ◌<◌, true, false, List, [], ◌++◌, map, length, get_or, take, Some, Option, sym, ap, ◌∙◌, subst, ⊎_elim, arith}
 use mathlib.Core.Bool.{Bool-set}
-use mathlib.Core.HLevel.{hedberg}
 use mathlib.Core.List.{is_set}
-use mathlib.Core.Logic.{∥∥₁_elim, ∥∥₁_map, ∥∥₁_prop}
+use mathlib.Core.Logic.{∥∥₁_elim, ∥∥₁_prop}
 use native.Mathlib.Bridge.{le_prop}
 use native.Mathlib.Nat.{ℕ_set}
 use lib.Count.{ones}
 use Rattle.std.specs.Option.{option_to_list}
-use Rattle.std.proofs.lemmas.Bool.{both_ways, cases_Bool}
+use Rattle.std.proofs.lemmas.Bool.{cases_Bool}
 use Rattle.basics.specs.declared.gate.Gate.{Gate as GateName}
 use Rattle.derivation.specs.declared.types.TypeEntry.{TypeEntry}
 use Rattle.derivation.specs.declared.rows.Rule.TheVariants.{Gate}
@@ -16,11 +15,10 @@ use Rattle.derivation.specs.declared.rows.Row.{Row}
 use Rattle.derivation.specs.declared.rows.Place.{Place}
 use Rattle.derivation.specs.Accepted.{Accepted}
 use Rattle.derivation.specs.Judgements.{rule_at}
-use Rattle.derivation.specs.Places.{moves}
 use Rattle.derivation.specs.Rows.{all_below}
 use Rattle.theory.specs.Ports.{is_end}
 use Rattle.theory.specs.Runs.{Reached, moved}
-use Rattle.theory.specs.Tokens.{Fired, Moved, advanced, is_seat, movable, move, no_place, seats, together, wire_at}
+use Rattle.theory.specs.Tokens.{Fired, advanced, is_seat, movable, no_place, seats, together, wire_at}
 use Rattle.theory.proofs.Assembled.{theory}
 use Rattle.theory.proofs.Basics.{none_some, same_some}
 use Rattle.theory.proofs.Progress.{move_facts}

@@ -1,5 +1,5 @@
 -- Places, and lists of them, are sets: any two proofs of an equation between them are equal.
-use Rattle.std.proofs.Common.{◌≡◌, List, ⊎_elim}
+use Rattle.std.proofs.Common.{List, ⊎_elim}
 use mathlib.Core.HLevel.{Discrete, hedberg}
 use mathlib.Core.List.{is_set}
 use Rattle.std.proofs.lemmas.Bool.{both_ways, cases_Bool}

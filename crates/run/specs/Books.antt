@@ -1,5 +1,5 @@
 -- What a run keeps of its tokens, so that no move looks at all wires: who waits at each row, and who can move.
-use Rattle.std.specs.Prelude.{◌≡◌, ℕ, suc, ◌<◌, ◌≤◌, Bool, true, cond, ◌&&◌, List, [], ◌∷◌, map, length, get_or, take, set, replicate, Some, None, vec_items, ◌==◌, count_ones, slice_index_or, slice_set}
+use Rattle.std.specs.Prelude.{◌≡◌, ℕ, suc, ◌<◌, ◌≤◌, Bool, true, cond, ◌&&◌, List, [], ◌∷◌, map, length, get_or, take, replicate, Some, None, vec_items, ◌==◌, count_ones, slice_index_or, slice_set}
 use Rattle.std.specs.Simd.Lanes.{mask_l}
 use Rattle.derivation.specs.declared.types.TypeEntry.{TypeEntry}
 use Rattle.derivation.specs.declared.rows.Row.{Row}

@@ -1,3 +1,5 @@
 // Targets: what receives the gates.
+#![tactic(auto)]
+
 pub mod checks;
 pub mod interface;

@@ -3,6 +3,8 @@
 //     layers; begin 3 0 0; h 0; cx 0 1
 //     layers; begin 3 0 0; h 0; x 1 | begin 3 0 0; x 1; h 0
 // A step is begin with the sets of used wires, given and ones as numbers, or a gate with its wires.
+#![tactic(auto)]
+
 use basics::gate::Gate;
 use basics::numbers::Wire;
 use basics::refusal::Refusal;

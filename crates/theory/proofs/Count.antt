@@ -116,7 +116,7 @@ module _ (es : List TypeEntry) (rows : List Row) (a : Accepted es rows) where
         let came = prev_advance es rows ports p here on in
         let there = (ports.forth p q here (next_advance es rows ports p here on)).0 in
         and_from _ _ there (and_from _ _
-        (not_from_false _ (not_so _ (λ y. let none = ports.at-start q there y in let z : ◌≡◌ {A = ℕ} 0 1 = cc in omega arith)))
+        (not_from_false _ (not_so _ (λ y. let none = ports.at_start q there y in let z : ◌≡◌ {A = ℕ} 0 1 = cc in omega arith)))
         (not_from_false _ (not_so _ (λ y. let (seat, more) = late_seat p q there y came in omega (arith, first seat)))))
 
     -- and is not otherwise
@@ -140,7 +140,7 @@ module _ (es : List TypeEntry) (rows : List Row) (a : Accepted es rows) (ports :
           → (p : Place) × (is_place es rows p ≡ true) × (is_end es rows p ≡ false) × (advance es rows p ≡ q) × (t p ≡ true)
       go (Some p) e y =
           let (here, after) = ports.back p q (lead-parts es rows q (and_parts (lead es rows q) _ h).0).0 e in
-          (p, here, not_so _ (λ ended. let none = ports.at-end p ended in let z : ◌≡◌ {A = ℕ} 0 1 = cc in omega arith), ap (λ o. unwrap_or o p) after, y)
+          (p, here, not_so _ (λ ended. let none = ports.at_end p ended in let z : ◌≡◌ {A = ℕ} 0 1 = cc in omega arith), ap (λ o. unwrap_or o p) after, y)
       go None e y = absurd (both_ways false refl y)
 
   -- and the place after one that passes is so, if it is a lead place

@@ -30,6 +30,6 @@ module _ (es : List TypeEntry) (rows : List Row) (a : Accepted es rows) (ports :
         (λ w h.
         let l = subst (λ k. w < k) len h in
         one_end (machine es rows) (marked es rows a ports begin) w (placed s w) (placed t w) (comes r w l) (comes q w l) (s-home w l) (t-home w l));
-    same-wire = λ s t m n fs gs r q w v hw hv same.
+    same_wire = λ s t m n fs gs r q w v hw hv same.
         comes-once (machine es rows) (marked es rows a ports begin) w v (placed s w) (placed t v) hw hv (comes r w hw) (comes q v hv) same;
   }

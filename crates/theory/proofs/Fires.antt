@@ -52,12 +52,12 @@ has_all n x h =
         ∙ omega (arith, suc-mul (k * 2 + 1) (2 ^ x), pow_pos x)
 
 -- different numbers of a set can be taken out of it one by one
-all_in : (m : ℕ) (xs : List ℕ) → ((i : ℕ) → i < length xs → has m (get_or xs i 0) ≡ true)
+all_in_lem : (m : ℕ) (xs : List ℕ) → ((i : ℕ) → i < length xs → has m (get_or xs i 0) ≡ true)
     → ((i j : ℕ) → i < length xs → j < length xs → get_or xs i 0 ≡ get_or xs j 0 → i ≡ j) → all_in m xs ≡ true
-all_in m [] inside apart = refl
-all_in m (x ∷ xs) inside apart =
+all_in_lem m [] inside apart = refl
+all_in_lem m (x ∷ xs) inside apart =
     and_from _ _ (inside 0 (omega arith))
-    (all_in (without m x) xs
+    (all_in_lem (without m x) xs
     (λ i h.
     has-without m x (get_or xs i 0)
     ∙ and_from _ _ (inside (suc i) (omega arith)) (not_from_false _ (ne_eqb _ _ (λ e. let z = apart (suc i) 0 (omega arith) (omega arith) e in omega arith))))
@@ -81,7 +81,7 @@ step-fires {rows = rows} {tokens = tokens} (Step.fires {r = r} l h rule n x hold
 fires_in : (rows : List Row) (tokens : List Place) (f : Fired) (r : ℕ) → FiresAt rows tokens f r → all_in (2 ^ length tokens - 1) f.wires ≡ true
 fires_in rows tokens f r at-r =
     let many = at-r.many in
-    all_in (2 ^ length tokens - 1) f.wires
+    all_in_lem (2 ^ length tokens - 1) f.wires
     (λ i h. has_all (length tokens) _ (at-r.stand i (omega arith)).0)
     (λ i j h k e. ap (λ (p : Place). p.atom.0) (sym (at-r.stand i (omega arith)).1 ∙ ap (λ v. get_or tokens v no_place) e ∙ (at-r.stand j (omega arith)).1))
 

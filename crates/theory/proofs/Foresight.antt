@@ -66,4 +66,4 @@ module _ (es : List TypeEntry) (rows : List Row) where
         let l = subst (λ k. w < k) len h in
         let (k, le, leads) = gone r w l in
         sym (get_or-map (followed es rows (moves es rows)) (starts es rows) w no_place no_place (subst (λ j. w < j) (sym begin.count) l)
-        ∙ followed_leads k (moves es rows) _ _ (omega arith) leads (ports.at-end _ (home w l))))
+        ∙ followed_leads k (moves es rows) _ _ (omega arith) leads (ports.at_end _ (home w l))))

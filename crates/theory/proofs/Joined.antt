@@ -22,7 +22,7 @@ use Rattle.theory.proofs.Belows.{premise-lower, below_row}
 use Rattle.theory.proofs.Signs.{gate-of}
 use Rattle.theory.proofs.Ways.{place-parts, seat_facts, seat_negative}
 use Rattle.theory.proofs.Links.{for_one, Linked, Link, premise-listed, rise}
-use Rattle.theory.proofs.Links.{lambda-bound, lambda-body, lambda-environment, pair-bound-first, pair-bound-second, pair-body, pair-lambda-environment}
+use Rattle.theory.proofs.Links.{lambda-bound, lambda-body, lambda-environment, pair-bound-first, pair-bound-second, pair_body, pair-lambda-environment}
 use Rattle.theory.proofs.Links.{apply-result, apply-falls, apply-environment, pair-first, pair-second, pair-environment}
 use Rattle.theory.proofs.PortLaws.{next-negative, next-positive, known_up, known-down, port_laws}
 
@@ -46,7 +46,7 @@ module _ (es : List TypeEntry) (rows : List Row) (a : Accepted es rows) where
       (below es rows x, inr (n, hb, m), (known-down es rows a p (Some q) h (sym (next-positive es rows p n) ∙ e)).1))
       (λ (l : length rows ≤ suc x).
       let k = (place-parts es rows p h).0 in
-      absurd (none_some (sym ((port_laws es rows a).at-end p (and_from _ _ (eq-eqb x (last es rows) (omega arith)) (not_from_false _ n))) ∙ e)))
+      absurd (none_some (sym ((port_laws es rows a).at_end p (and_from _ _ (eq-eqb x (last es rows) (omega arith)) (not_from_false _ n))) ∙ e)))
       (cases_lt (suc x) (length rows)))
       (cases_Bool (negative es rows p))
 
@@ -88,9 +88,9 @@ module _ (es : List TypeEntry) (rows : List Row) (a : Accepted es rows) where
   joined_pass r h (Joins.environment {q = q} {z = z} {i = i} l k b w) = link_passes (environment_link r q z i (rule_at rows r) h refl l k b w)
   joined_pass r h (Joins.bound {p = p} {x = x} {i = i} e w) = link_passes (lambda-bound es rows a r h p x e i w)
   joined_pass r h (Joins.body {p = p} {x = x} {i = i} e w) = link_passes (lambda-body es rows a r h p x e _ i refl w)
-  joined_pass r h (Joins.bound-first {p = p} {x = x} {y = y} {i = i} e w) = link_passes (pair-bound-first es rows a r h p x y e i w)
-  joined_pass r h (Joins.bound-second {p = p} {x = x} {y = y} {i = i} e w) = link_passes (pair-bound-second es rows a r h p x y e _ i refl w)
-  joined_pass r h (Joins.pair-body {p = p} {x = x} {y = y} {i = i} e w) = link_passes (pair-body es rows a r h p x y e _ i refl w)
+  joined_pass r h (Joins.bound_first {p = p} {x = x} {y = y} {i = i} e w) = link_passes (pair-bound-first es rows a r h p x y e i w)
+  joined_pass r h (Joins.bound_second {p = p} {x = x} {y = y} {i = i} e w) = link_passes (pair-bound-second es rows a r h p x y e _ i refl w)
+  joined_pass r h (Joins.pair_body {p = p} {x = x} {y = y} {i = i} e w) = link_passes (pair_body es rows a r h p x y e _ i refl w)
   joined_pass r h (Joins.argument {f = f} {a = b} {i = i} e w) =
       let (from-f, from-b) = apply-falls es rows a r h f b e i w in (
         inr (premise-listed es rows a r h (Apply f b) e f.0 (listed-first f.0 (b.0 ∷ [])), from-f),

@@ -50,7 +50,7 @@ pub record Link (es : List TypeEntry) (rows : List Row) (r : ℕ) (p q : Place) 
   pub joins : Joins es rows r p q
   pub own : p.row.0 ≡ r
   pub premise : listed q.row.0 (premises (rule_at rows r)) ≡ true
-  pub lower-place : is_place es rows p ≡ true
+  pub lower_place : is_place es rows p ≡ true
   pub upper_place : is_place es rows q ≡ true
   pub rises : upward es rows p ≡ Some q
   pub falls : downward es rows q ≡ Some p
@@ -93,7 +93,7 @@ module _ (es : List TypeEntry) (rows : List Row) (a : Accepted es rows) where
       joins = Joins.environment (premise-listed q l) mq (ap (λ k. listed z (binders k)) e ∙ b) w;
       own = refl;
       premise = premise-listed q l;
-      lower-place = place-held es rows r z i h mr w;
+      lower_place = place-held es rows r z i h mr w;
       upper_place = place-held es rows q z i (premise-row q l) mq w;
       rises = rise _ i ∙ o;
       falls = fall q _ i l ∙ p;
@@ -110,7 +110,7 @@ module _ (es : List TypeEntry) (rows : List Row) (a : Accepted es rows) where
       joins = k;
       own = refl;
       premise = premise-listed q l;
-      lower-place = place_at_lem es rows r i h wr;
+      lower_place = place_at_lem es rows r i h wr;
       upper_place = place_at_lem es rows q j (premise-row q l) wq;
       rises = rise _ i ∙ o;
       falls = fall q _ j l ∙ p;
@@ -127,7 +127,7 @@ module _ (es : List TypeEntry) (rows : List Row) (a : Accepted es rows) where
       joins = k;
       own = refl;
       premise = premise-listed q l;
-      lower-place = place_at_lem es rows r i h wr;
+      lower_place = place_at_lem es rows r i h wr;
       upper_place = place-held es rows q x j (premise-row q l) m w;
       rises = rise _ i ∙ o;
       falls = fall q _ j l ∙ p;
@@ -169,7 +169,7 @@ module _ (es : List TypeEntry) (rows : List Row) (a : Accepted es rows) where
     pair-bound-first i l =
         let (t, mx, my, d, env) = rule_says es rows a r (PairLambda p x y) h e in
         let w = ap atoms t in
-        binder r h (PairLambda p x y) e p.0 x.0 i i (listed-first p.0 []) (Joins.bound-first e l) (omega arith) mx l
+        binder r h (PairLambda p x y) e p.0 x.0 i i (listed-first p.0 []) (Joins.bound_first e l) (omega arith) mx l
         (first _ _ _ (lt-ltb _ _ l))
         (first _ _ _ (eq-eqb x.0 x.0 refl))
         (arrow-left _ _ _ i t (omega arith) ∙ ap not (pair_left _ _ _ i refl l))
@@ -180,18 +180,18 @@ module _ (es : List TypeEntry) (rows : List Row) (a : Accepted es rows) where
         let (t, mx, my, d, env) = rule_says es rows a r (PairLambda p x y) h e in
         let w = ap atoms t in
         let n : i - width es rows x.0 ≡ j = omega arith in
-        binder r h (PairLambda p x y) e p.0 y.0 i j (listed-first p.0 []) (subst (λ n. Joins es rows r (at r n) (held p.0 y.0 j)) (sym s) (Joins.bound-second e l)) (omega arith) my l
+        binder r h (PairLambda p x y) e p.0 y.0 i j (listed-first p.0 []) (subst (λ n. Joins es rows r (at r n) (held p.0 y.0 j)) (sym s) (Joins.bound_second e l)) (omega arith) my l
         (second _ _ _ (le-ltb i (width es rows x.0) (omega arith)) ∙ first _ _ _ (lt-ltb i (width es rows x.0 + width es rows y.0) (omega arith)) ∙ same _ _ (ap (held p.0 y.0) n))
         (second _ _ _ (ne_eqb y.0 x.0 (λ q. d (sym q))) ∙ first _ _ _ (eq-eqb y.0 y.0 refl) ∙ same _ _ (ap (at r) (sym s)))
         (arrow-left _ _ _ i t (omega arith) ∙ ap not (pair-right _ _ _ i refl j s))
 
     -- the rest, and the body
-    pub pair-body : (i j : ℕ) → i ≡ width es rows x.0 + width es rows y.0 + j → j < width es rows p.0 → Link es rows r (at r i) (at p.0 j)
-    pair-body i j s l =
+    pub pair_body : (i j : ℕ) → i ≡ width es rows x.0 + width es rows y.0 + j → j < width es rows p.0 → Link es rows r (at r i) (at p.0 j)
+    pair_body i j s l =
         let (t, mx, my, d, env) = rule_says es rows a r (PairLambda p x y) h e in
         let w = ap atoms t in
         let n : i - (width es rows x.0 + width es rows y.0) ≡ j = omega arith in
-        types r h (PairLambda p x y) e p.0 i j (listed-first p.0 []) (subst (λ n. Joins es rows r (at r n) (at p.0 j)) (sym s) (Joins.pair-body e l)) (omega arith) l
+        types r h (PairLambda p x y) e p.0 i j (listed-first p.0 []) (subst (λ n. Joins es rows r (at r n) (at p.0 j)) (sym s) (Joins.pair_body e l)) (omega arith) l
         (second _ _ _ (le-ltb i (width es rows x.0) (omega arith)) ∙ second _ _ _ (le-ltb i (width es rows x.0 + width es rows y.0) (omega arith)) ∙ same _ _ (ap (at p.0) n))
         (same _ _ (ap (at r) (sym s)))
         (arrow-right _ _ _ i t j s)

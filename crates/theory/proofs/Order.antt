@@ -173,7 +173,7 @@ module _ (es : List TypeEntry) (rows : List Row) where
         let (s-within, s-at) = wire-found s p s-here in
         let (t_within, t-at) = wire-found t p t-here in
         let here =
-        det.same-wire s t m n fs gs x y (wire_at s p) (wire_at t p)
+        det.same_wire s t m n fs gs x y (wire_at s p) (wire_at t p)
         (omega (arith, as_many s m fs x)) (omega (arith, as_many t n gs y)) (s-at ∙ sym t-at) in
         let rest = same-wires s t m n fs gs x y ps s-rest t-rest in
         cc
@@ -182,7 +182,7 @@ module _ (es : List TypeEntry) (rows : List Row) where
     start-apart : (w : ℕ) → w < wires es rows → (p q : Place) (gates : List Fired) → get_or (starts es rows) w no_place ≡ q → Passes w p q gates → ⊥
     start-apart w h p q gates e c =
         let (place, start) = begin.each w h in
-        let none = ports.at-start (get_or (starts es rows) w no_place) place start in
+        let none = ports.at_start (get_or (starts es rows) w no_place) place start in
         let some = (ports.forth p q c.place c.onward).1 in
         let z : ◌≡◌ {A = ℕ} 0 1 = cc in
         omega arith

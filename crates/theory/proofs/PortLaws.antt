@@ -28,7 +28,7 @@ use Rattle.theory.proofs.Belows.{below_row, below_last, premises_differ}
 use Rattle.theory.proofs.Signs.{bit-of, rule_says, arrow-left}
 use Rattle.theory.proofs.Ways.{place, part_has, place_at_lem, place-held, place-parts, gate-width, gate-negative}
 use Rattle.theory.proofs.Links.{first, second, same, for_one, for_both, Linked, Link, premise-row, rise}
-use Rattle.theory.proofs.Links.{lambda-bound, lambda-body, lambda-environment, pair-bound-first, pair-bound-second, pair-body, pair-lambda-environment}
+use Rattle.theory.proofs.Links.{lambda-bound, lambda-body, lambda-environment, pair-bound-first, pair-bound-second, pair_body, pair-lambda-environment}
 use Rattle.theory.proofs.Links.{apply-result, apply-falls, apply-environment, pair-first, pair-second, pair-environment}
 
 -- q is a place from which a rule leads back to p; its sign is n, or the reverse if the rule is that of its own row
@@ -58,7 +58,7 @@ module _ {es : List TypeEntry} {rows : List Row} {r : ℕ} {p q : Place} (l : Li
   link_up = (down l.upper_place l.falls (sym l.signs), inl (subst (λ r. Linked es rows r p q) (sym l.own) (inl l.joins)))
 
   link_down : Down es rows r q (Some p)
-  link_down = (up l.lower-place l.rises (l.signs ∙ sym (not-not (negative es rows q))), inr l.joins)
+  link_down = (up l.lower_place l.rises (l.signs ∙ sym (not-not (negative es rows q))), inr l.joins)
 
 -- next and prev at a negative and at a positive place
 module _ (es : List TypeEntry) (rows : List Row) (p : Place) where
@@ -163,7 +163,7 @@ module _ (es : List TypeEntry) (rows : List Row) (a : Accepted es rows) where
       (λ s. let m = ltb-false _ _ s in
       cond_both (ltb i (width es rows x.0 + width es rows y.0)) _ _ (λ q. Up es rows (at r i) (Some q))
       (λ s. let n = ltb-true _ _ s in link_up (pair-bound-second es rows a r h p x y e i _ (omega arith) (omega arith)))
-      (λ s. let n = ltb-false _ _ s in link_up (pair-body es rows a r h p x y e i _ (omega arith) (omega arith))))
+      (λ s. let n = ltb-false _ _ s in link_up (pair_body es rows a r h p x y e i _ (omega arith) (omega arith))))
   own-type r i h l (Apply f b) e = link_up (apply-result es rows a r h f b e i _ refl l)
   own-type r i h l (Pair p p') e =
       let w = ap atoms (rule_says es rows a r (Pair p p') h e).0 in
@@ -207,7 +207,7 @@ module _ (es : List TypeEntry) (rows : List Row) (a : Accepted es rows) where
   premise-type r q i h (Lambda p x) e m =
       for_one (FromType es rows r (Lambda p x) i) p.0 q m (λ l. link_down (lambda-body es rows a r h p x e _ i refl l))
   premise-type r q i h (PairLambda p x y) e m =
-      for_one (FromType es rows r (PairLambda p x y) i) p.0 q m (λ l. link_down (pair-body es rows a r h p x y e _ i refl l))
+      for_one (FromType es rows r (PairLambda p x y) i) p.0 q m (λ l. link_down (pair_body es rows a r h p x y e _ i refl l))
   premise-type r q i h (Apply f b) e m =
       let w = ap atoms (rule_says es rows a r (Apply f b) h e).0 in
       for_both (FromType es rows r (Apply f b) i) f.0 b.0 q m
@@ -316,8 +316,8 @@ module _ (es : List TypeEntry) (rows : List Row) (a : Accepted es rows) where
   at_last p l = let e = eqb-true _ _ l in last_falls p.row.0 p.part p.atom.0 (omega arith)
 
   -- next is undefined at the ends
-  at-end : (p : Place) → is_end es rows p ≡ true → next es rows p ≡ None
-  at-end p h =
+  at_end : (p : Place) → is_end es rows p ≡ true → next es rows p ≡ None
+  at_end p h =
       let (l, n) = and_parts _ _ h in
       next-positive es rows p (not-true _ n) ∙ at_last p l
 
@@ -330,8 +330,8 @@ module _ (es : List TypeEntry) (rows : List Row) (a : Accepted es rows) where
       (cases_Bool (negative es rows p))
 
   -- prev is undefined at the starts
-  at-start : (p : Place) → is_start es rows p ≡ true → prev es rows p ≡ None
-  at-start p s =
+  at_start : (p : Place) → is_start es rows p ≡ true → prev es rows p ≡ None
+  at_start p s =
       ⊎_elim
       (λ n. prev_negative es rows p n ∙ at_last p (sym (cond-true _ _ _ n) ∙ s))
       (λ n. prev_positive es rows p n ∙ bit-rises es rows p.row.0 (rule_at rows p.row.0) p.part p.atom.0 (sym (cond-false _ _ _ n) ∙ s))
@@ -343,7 +343,7 @@ port_laws es rows a = record {
   forth = forth es rows a;
   back = back es rows a;
   to_end = to_end es rows a;
-  at-end = at-end es rows a;
+  at_end = at_end es rows a;
   from_start = from_start es rows a;
-  at-start = λ p h. at-start es rows a p;
+  at_start = λ p h. at_start es rows a p;
 }

@@ -27,7 +27,7 @@ use Rattle.theory.proofs.Belows.{premise-lower, below_row}
 use Rattle.theory.proofs.Signs.{Together, Closed, rule_says, arrow-left, power-atoms}
 use Rattle.theory.proofs.Ways.{place, part_has, place_at_lem, place-held, place-parts, row-among, mates-from, seat_is, together_seat, next-seat, seat_place, seat_no_end}
 use Rattle.theory.proofs.Links.{Linked, Link, premise-listed, premise-row}
-use Rattle.theory.proofs.Links.{lambda-bound, lambda-body, lambda-environment, pair-bound-first, pair-bound-second, pair-body, pair-lambda-environment}
+use Rattle.theory.proofs.Links.{lambda-bound, lambda-body, lambda-environment, pair-bound-first, pair-bound-second, pair_body, pair-lambda-environment}
 use Rattle.theory.proofs.Links.{apply-result, apply-environment, pair-first, pair-second, pair-environment}
 use Rattle.theory.proofs.Joined.{joins-next}
 use Rattle.theory.proofs.Gives.{From, Gives, Takes, gives_as, takes_as, full, gives_all, takes_all, Sends, turned, Leads, gives_on, takes_on, power-takes, power_gives, power-given}
@@ -257,7 +257,7 @@ module _
   -- a place of row r and one of a premise that its rule joins, by the sign of the one and of the other
   sends : {r : ℕ} {p q : Place} → r < length rows → Link es rows r p q → Sends (negative es rows p) (S p) (S q)
   sends {r} {p} {q} h k = record {
-    onward = λ c. climbs r p q k.lower-place k.own c (inl k.joins);
+    onward = λ c. climbs r p q k.lower_place k.own c (inl k.joins);
     back = λ c. descends r q p h k.upper_place k.premise (sym k.signs ∙ c) (inr k.joins);
   }
 
@@ -336,7 +336,7 @@ module _
       (k, not-true _ dx, not-true _ dy) in
       let bound-x : Leads a (Typed S r) (KeptAt S p.0 x.0) = λ i l. sends-above h (pair-bound-first es rows accepted r h p x y e i l) in
       let bound-y : Leads b (From (atoms a) (Typed S r)) (KeptAt S p.0 y.0) = λ i l. sends-above h (pair-bound-second es rows accepted r h p x y e _ i refl l) in
-      let body : Leads c (Typed S p.0) (From (atoms a + atoms b) (Typed S r)) = λ i l. turned (positive c i) (sends-above h (pair-body es rows accepted r h p x y e _ i refl l)) in
+      let body : Leads c (Typed S p.0) (From (atoms a + atoms b) (Typed S r)) = λ i l. turned (positive c i) (sends-above h (pair_body es rows accepted r h p x y e _ i refl l)) in
       let given-x : Gives a (Typed S r) → (z : ℕ) → z ≡ x.0 → VarGives es rows S p.0 z = λ v z m. subst⁻¹ (VarGives es rows S p.0) m (gives_on a bound-x v) in
       let given-y : Gives b (From (atoms a) (Typed S r)) → (z : ℕ) → z ≡ y.0 → VarGives es rows S p.0 z = λ v z m. subst⁻¹ (VarGives es rows S p.0) m (gives_on b bound-y v) in
       record {

@@ -12,7 +12,7 @@ use Rattle.derivation.specs.Sets.{has}
 use Rattle.basics.specs.Gates.{arity}
 use Rattle.derivation.specs.Trees.{Tree, qubit, arrow, pair, atoms, positive, power}
 use Rattle.derivation.specs.Rows.{premises}
-use Rattle.derivation.specs.Judgements.{Judgement, ◌⊢◌, Apart, rule_at, tree_at, judged, Infers, variable, zero_bit, one_bit, gate, abstraction, pair-abstraction, application, pairing}
+use Rattle.derivation.specs.Judgements.{Judgement, ◌⊢◌, Apart, rule_at, tree_at, judged, Infers, variable, zero_bit, one_bit, gate, abstraction, pair_abstraction, application, pairing}
 use Rattle.derivation.specs.Places.{is_bit, is_gate}
 use Rattle.derivation.specs.Accepted.{Accepted}
 use Rattle.derivation.proofs.SetLaws.{has_none, has-only, has-union, has-without}
@@ -82,7 +82,7 @@ said zero_bit = (refl, has_none)
 said one_bit = (refl, has_none)
 said gate = (refl, has_none)
 said (abstraction {x = x} {m = m} h) = (refl, h, has-without m x.0)
-said (pair-abstraction {x = x} {y = y} {m = m} hx hy d) =
+said (pair_abstraction {x = x} {y = y} {m = m} hx hy d) =
     (refl, hx, hy, d, λ z. has-without _ y.0 z ∙ ap (λ b. b && not (eqb z y.0)) (has-without m x.0 z))
 said (application {m = m} {n = n} d) = (refl, has-union m n, d)
 said (pairing {m = m} {n = n} d) = (refl, has-union m n, d)

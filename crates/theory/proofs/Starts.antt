@@ -1,6 +1,6 @@
 -- The places of a derivation, its starts and its ends: each stands in its list exactly once.
 use Rattle.std.proofs.Common.{◌≡◌, ℕ, zero, suc, ◌+◌, ◌<◌, ◌≤◌, Bool, true, false, cond, not, ◌&&◌, eqb, ltb, List, [], ◌∷◌, ◌++◌, length, get_or, sym, refl, ap, ◌∙◌, ap₂, ⊎_elim, add-zero, add-suc, suc-add, zero-add, arith}
-use mathlib.Core.Bool.{and_true, and-false, and_assoc, and_comm}
+use mathlib.Core.Bool.{and-true, and-false, and_assoc, and_comm}
 use Rattle.std.specs.List.{flat_map}
 use Rattle.std.proofs.lemmas.List.{length-append}
 use Rattle.std.proofs.lemmas.Bool.{and_parts, and_from, eq-eqb, ne_eqb, cases_Bool, cases_eq, cases_lt, lt-ltb, le-ltb}
@@ -126,7 +126,7 @@ module _ (es : List TypeEntry) (rows : List Row) (a : Accepted es rows) where
   occ-placed q r l =
       ⊎_elim
       (λ (e : q.row.0 ≡ r).
-      occ-row q r l ∙ rw (← e) (rw (eq-eqb q.row.0 q.row.0 refl, lt-ltb q.row.0 (length rows) (omega arith)) (ap one (sym (and_true _)))))
+      occ-row q r l ∙ rw (← e) (rw (eq-eqb q.row.0 q.row.0 refl, lt-ltb q.row.0 (length rows) (omega arith)) (ap one (sym (and-true _)))))
       (λ ne. occ-row q r l ∙ rw (ne_eqb r q.row.0 (λ e. ne (sym e)), ne_eqb q.row.0 r ne) (ap one (sym (and-false _))))
       (cases_eq q.row.0 r)
 
@@ -195,7 +195,7 @@ module _ (es : List TypeEntry) (rows : List Row) (a : Accepted es rows) where
       inside : r < length rows → (b : Bool) → is_bit (rule_at rows r) ≡ b → (part : Part)
           → one (b && (same_part Ty part && eqb 0 i))
           ≡ cond (negative es rows (record { row = q.row; part = part; atom = q.atom })) 0 (one (ltb i (part_width es rows r part) && b))
-      inside l true e Ty = rw ((bit-row r l e).0, eqb_first i) (ap one (sym (and_true _)))
+      inside l true e Ty = rw ((bit-row r l e).0, eqb_first i) (ap one (sym (and-true _)))
       inside l true e (Var z) = rw ((bit-row r l e).1 z.0, le-ltb i 0 (omega arith)) (sym (cond_zero _))
       inside l false e part = rw (and-false (ltb i (part_width es rows r part))) (sym (cond_zero _))
 
@@ -222,7 +222,7 @@ module _ (es : List TypeEntry) (rows : List Row) (a : Accepted es rows) where
       ∙ go (not (negative es rows q)) (is_place es rows q) (eqb q.row.0 (last es rows))
     where
       go : (n p x : Bool) → cond n (one (p && x)) 0 ≡ one (p && (x && n))
-      go true p x = ap (λ b. one (p && b)) (sym (and_true x))
+      go true p x = ap (λ b. one (p && b)) (sym (and-true x))
       go false true x = ap one (sym (and-false x))
       go false false x = refl
 

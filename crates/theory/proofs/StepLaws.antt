@@ -88,7 +88,7 @@ module _ (es : List TypeEntry) (rows : List Row) (a : Accepted es rows) (ports :
 
   -- a place with a next place is no end
   next_no-end : (p q : Place) → next es rows p ≡ Some q → is_end es rows p ≡ false
-  next_no-end p q e = not_so _ (λ t. none_some (sym (ports.at-end p t) ∙ e))
+  next_no-end p q e = not_so _ (λ t. none_some (sym (ports.at_end p t) ∙ e))
 
   -- a token at a place that is no seat moves alone, and fires nothing
   move_alone : (w : ℕ) (q : Place) → w < length tokens → is_seat es rows (token w) ≡ false → next es rows (token w) ≡ Some q

@@ -14,7 +14,7 @@ use Rattle.theory.specs.Examples.{Examples}
 pub examples : Examples
 unfolding derivation_of parse cut first_fault grown trees environments taken given places has only union without next starts ends move
 examples = record {
-  bell-counts = refl;
+  bell_counts = refl;
   bell_swept = refl;
   bell_twice = refl;
   bell_waits = refl;

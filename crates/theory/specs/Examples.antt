@@ -70,7 +70,7 @@ counts_of (Err e) = []
 
 -- what the worked derivations come to, the lowest wire moving first
 pub record Examples : Type 0 where
-  pub bell-counts : counts_of (derivation_of (bell 5)) ≡ 2 ∷ 10 ∷ []
+  pub bell_counts : counts_of (derivation_of (bell 5)) ≡ 2 ∷ 10 ∷ []
   pub bell_swept : sweep (bell 5) ≡ record { made = 10; at_ends_lem = 0 ∷ 1 ∷ []; fired = record { gate = H; wires = 0 ∷ [] } ∷ record { gate = Cx; wires = 0 ∷ 1 ∷ [] } ∷ [] }
   pub bell_twice : possible_from (derivation_of (bell 5)) (1 ∷ 1 ∷ []) ≡ true
   pub bell_waits : possible_from (derivation_of (bell 5)) (1 ∷ 1 ∷ 1 ∷ []) ≡ false

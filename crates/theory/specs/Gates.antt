@@ -1,5 +1,5 @@
 -- Lists of fired gates: their order on each wire, and swaps of neighbours.
-use Rattle.std.specs.Prelude.{◌≡◌, ℕ, ◌<◌, Bool, true, false, not, ◌&&◌, ◌↔◌, List, [], ◌∷◌, ◌++◌, length, slice_index_or}
+use Rattle.std.specs.Prelude.{◌≡◌, ℕ, ◌<◌, Bool, true, not, ◌&&◌, ◌↔◌, List, [], ◌∷◌, ◌++◌, length, slice_index_or}
 use Rattle.derivation.specs.Places.{keep}
 use Rattle.theory.specs.Ports.{listed}
 use Rattle.theory.specs.Tokens.{Fired}

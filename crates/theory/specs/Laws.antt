@@ -1,5 +1,5 @@
 -- The laws of the token machine, as statements.
-use Rattle.std.specs.Prelude.{◌≡◌, ℕ, ◌-◌, ◌^◌, ◌<◌, ◌≤◌, Bool, true, false, ◌↔◌, List, length, Some, None, Option, slice_index_or}
+use Rattle.std.specs.Prelude.{◌≡◌, ℕ, ◌-◌, ◌^◌, ◌<◌, ◌≤◌, Bool, true, false, ◌↔◌, List, length, Some, None, slice_index_or}
 use Rattle.basics.specs.Gates.{arity}
 use Rattle.derivation.specs.declared.types.TypeEntry.{TypeEntry}
 use Rattle.derivation.specs.declared.rows.Rule.TheVariants.{Gate}
@@ -19,9 +19,9 @@ pub record PortLaws (es : List TypeEntry) (rows : List Row) : Type 0 where
   pub forth : (p q : Place) → is_place es rows p ≡ true → next es rows p ≡ Some q → (is_place es rows q ≡ true) × (prev es rows q ≡ Some p)
   pub back : (p q : Place) → is_place es rows q ≡ true → prev es rows q ≡ Some p → (is_place es rows p ≡ true) × (next es rows p ≡ Some q)
   pub to_end : (p : Place) → is_place es rows p ≡ true → next es rows p ≡ None → is_end es rows p ≡ true
-  pub at-end : (p : Place) → is_end es rows p ≡ true → next es rows p ≡ None
+  pub at_end : (p : Place) → is_end es rows p ≡ true → next es rows p ≡ None
   pub from_start : (p : Place) → is_place es rows p ≡ true → prev es rows p ≡ None → is_start es rows p ≡ true
-  pub at-start : (p : Place) → is_place es rows p ≡ true → is_start es rows p ≡ true → prev es rows p ≡ None
+  pub at_start : (p : Place) → is_place es rows p ≡ true → is_start es rows p ≡ true → prev es rows p ≡ None
 
 -- the starts are W different places, and all at which a token can start
 pub record StartLaws (es : List TypeEntry) (rows : List Row) : Type 0 where
@@ -72,7 +72,7 @@ Count es rows =
 -- a wire's end is the same in all runs, and only one wire ever comes to a place
 pub record Determined (es : List TypeEntry) (rows : List Row) : Type 0 where
   pub same_ends : (s t : List Place) (m n : ℕ) (fs gs : List Fired) → Reached es rows s m fs → Reached es rows t n gs → Home es rows s → Home es rows t → s ≡ t
-  pub same-wire : (s t : List Place) (m n : ℕ) (fs gs : List Fired) → Reached es rows s m fs → Reached es rows t n gs → (w v : ℕ) → w < wires es rows → v < wires es rows → slice_index_or s w no_place ≡ slice_index_or t v no_place → w ≡ v
+  pub same_wire : (s t : List Place) (m n : ℕ) (fs gs : List Fired) → Reached es rows s m fs → Reached es rows t n gs → (w v : ℕ) → w < wires es rows → v < wires es rows → slice_index_or s w no_place ≡ slice_index_or t v no_place → w ≡ v
 
 -- two complete runs fire the same gates with the same wires, in the same order on each wire
 abbrev pub Ordered : List TypeEntry → List Row → Type 0

@@ -1,9 +1,8 @@
 -- One step of the multi-token machine, as a relation on tokens.
-use Rattle.std.specs.Prelude.{◌≡◌, ℕ, ◌+◌, ◌<◌, Bool, true, false, not, ◌⊎◌, List, [], ◌∷◌, length, Some, None, Option, slice_index, slice_index_or, slice_set}
+use Rattle.std.specs.Prelude.{◌≡◌, ℕ, ◌+◌, ◌<◌, true, false, ◌⊎◌, List, length, Some, None, Option, slice_index, slice_index_or, slice_set}
 use Rattle.basics.specs.declared.gate.Gate.{Gate as GateName}
 use Rattle.derivation.specs.declared.types.TypeEntry.{TypeEntry}
 use Rattle.basics.specs.declared.numbers.RowId.{RowId}
-use Rattle.derivation.specs.declared.rows.Rule.{Rule}
 use Rattle.derivation.specs.declared.rows.Rule.TheVariants.{Variable, Gate, Lambda, PairLambda, Apply, Pair}
 use Rattle.derivation.specs.declared.rows.Row.{Row}
 use Rattle.derivation.specs.declared.rows.Place.{Place}
@@ -25,9 +24,9 @@ pub data Joins (es : List TypeEntry) (rows : List Row) (r : ℕ) : Place → Pla
   bound : {p x : RowId} {i : ℕ} → rule_at rows r ≡ Lambda p x → i < width es rows x.0 → Joins es rows r (at r i) (held p.0 x.0 i)
   body : {p x : RowId} {i : ℕ} → rule_at rows r ≡ Lambda p x → i < width es rows p.0 → Joins es rows r (at r (width es rows x.0 + i)) (at p.0 i)
   -- the same of a pair lambda and its two bound variables
-  bound-first : {p x y : RowId} {i : ℕ} → rule_at rows r ≡ PairLambda p x y → i < width es rows x.0 → Joins es rows r (at r i) (held p.0 x.0 i)
-  bound-second : {p x y : RowId} {i : ℕ} → rule_at rows r ≡ PairLambda p x y → i < width es rows y.0 → Joins es rows r (at r (width es rows x.0 + i)) (held p.0 y.0 i)
-  pair-body : {p x y : RowId} {i : ℕ} → rule_at rows r ≡ PairLambda p x y → i < width es rows p.0 → Joins es rows r (at r (width es rows x.0 + width es rows y.0 + i)) (at p.0 i)
+  bound_first : {p x y : RowId} {i : ℕ} → rule_at rows r ≡ PairLambda p x y → i < width es rows x.0 → Joins es rows r (at r i) (held p.0 x.0 i)
+  bound_second : {p x y : RowId} {i : ℕ} → rule_at rows r ≡ PairLambda p x y → i < width es rows y.0 → Joins es rows r (at r (width es rows x.0 + i)) (held p.0 y.0 i)
+  pair_body : {p x y : RowId} {i : ℕ} → rule_at rows r ≡ PairLambda p x y → i < width es rows p.0 → Joins es rows r (at r (width es rows x.0 + width es rows y.0 + i)) (at p.0 i)
   -- the first atoms of a function and its argument, and the rest and the application
   argument : {f a : RowId} {i : ℕ} → rule_at rows r ≡ Apply f a → i < width es rows a.0 → Joins es rows r (at f.0 i) (at a.0 i)
   result : {f a : RowId} {i : ℕ} → rule_at rows r ≡ Apply f a → i < width es rows r → Joins es rows r (at r i) (at f.0 (width es rows a.0 + i))

@@ -15,13 +15,13 @@ use Rattle.worked.specs.Programs.{Programs}
 pub programs : Programs
 unfolding derivation_of parse cut first_fault grown trees environments taken given places has only union without next starts ends move lowest move_of sweep_of
 programs = record {
-  bell-walked = refl;
+  bell_walked = refl;
   new_swept = (refl, refl, refl);
-  hx-counted = refl;
-  swap-walked = refl;
-  cx-walked = (refl, refl);
+  hx_counted = refl;
+  swap_walked = refl;
+  cx_walked = (refl, refl);
   empty_refused = refl;
-  bell-refused = refl;
+  bell_refused = refl;
   bell_waits = refl;
   bell_unfit = (refl, refl);
 }

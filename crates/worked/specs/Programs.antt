@@ -3,22 +3,20 @@ use Rattle.std.specs.Prelude.{◌≡◌, ℕ, Bool, true, false, List, [], ◌�
 use Rattle.basics.specs.Refusals.{number_of, layer_of, place_of}
 use Rattle.basics.specs.declared.gate.Gate.{Gate}
 use Rattle.basics.specs.declared.refusal.Refusal.{Refusal}
-use Rattle.derivation.specs.declared.types.TypeEntry.{TypeEntry}
-use Rattle.derivation.specs.declared.rows.Row.{Row}
 use Rattle.derivation.specs.Accepted.{Derivation}
 use Rattle.derivation.specs.Examples.{bell, hx, swap, cx}
 use Rattle.derivation.specs.Format.{derivation_of}
 use Rattle.derivation.specs.Places.{given, wires, moves}
 use Rattle.derivation.specs.Rows.{zero_row}
 use Rattle.derivation.specs.Sets.{has}
-use Rattle.theory.specs.Ports.{ends, starts}
+use Rattle.theory.specs.Ports.{ends}
 use Rattle.theory.specs.Tokens.{wire_at}
 use Rattle.target.specs.Interface.{View, all_codes}
 use Rattle.layers.specs.Layers.{fresh, layered}
 use Rattle.register.specs.Register.{Contents, acted, holding, prepared, takes_all_but_h}
 use Rattle.run.specs.declared.call.Call.{Call}
-use Rattle.run.specs.declared.call.Call.TheVariants.{Move, Sweep}
-use Rattle.run.specs.Calls.{Stage, Swept, after_calls, move_of, sweep_of}
+use Rattle.run.specs.declared.call.Call.TheVariants.{Move}
+use Rattle.run.specs.Calls.{after_calls, move_of, sweep_of}
 use Rattle.run.specs.Opening.{open_fault, opened}
 
 -- number, layer and place of a refusal; nothing where there is none
@@ -83,19 +81,19 @@ open_refused (Err e) takes v = []
 
 pub record Programs : Type 0 where
   -- Bell has 10 moves and layers 2 and 2
-  pub bell-walked : layers_of (derivation_of (bell 5)) ≡ record { answer = Ok (10, true); at_ends_lem = 0 ∷ 1 ∷ []; layers = 2 ∷ 2 ∷ [] }
+  pub bell_walked : layers_of (derivation_of (bell 5)) ≡ record { answer = Ok (10, true); at_ends_lem = 0 ∷ 1 ∷ []; layers = 2 ∷ 2 ∷ [] }
   -- a new holder has one wire and no move, and a sweep of 0 answers so
   pub new_swept : (wires [] (zero_row ∷ []) ≡ 1) × (moves [] (zero_row ∷ []) ≡ 0) × ((sweep_of all_codes layered [] (zero_row ∷ []) 0 (opened [] (zero_row ∷ []) fresh new_layers)).answer ≡ Ok (0, true))
   -- h on a free variable has one given wire and 5 moves
-  pub hx-counted : counts_of (derivation_of hx) ≡ 1 ∷ 5 ∷ []
+  pub hx_counted : counts_of (derivation_of hx) ≡ 1 ∷ 5 ∷ []
   -- the swap has 10 moves, and wire 1 comes to end 0
-  pub swap-walked : layers_of (derivation_of swap) ≡ record { answer = Ok (10, true); at_ends_lem = 1 ∷ 0 ∷ []; layers = 0 ∷ 0 ∷ [] }
+  pub swap_walked : layers_of (derivation_of swap) ≡ record { answer = Ok (10, true); at_ends_lem = 1 ∷ 0 ∷ []; layers = 0 ∷ 0 ∷ [] }
   -- cx on one with zero has 7 moves, and leaves bits 1 and 1 and phase 0
-  pub cx-walked : (counts_of (derivation_of cx) ≡ 0 ∷ 7 ∷ []) × (bits_of (derivation_of cx) ≡ ((true, true), 0))
+  pub cx_walked : (counts_of (derivation_of cx) ≡ 0 ∷ 7 ∷ []) × (bits_of (derivation_of cx) ≡ ((true, true), 0))
   -- empty input is refused
   pub empty_refused : refused (derivation_of []) ≡ 1 ∷ 1 ∷ 0 ∷ []
   -- so is Bell with 4 as its last byte: row 6 takes a premise that is taken
-  pub bell-refused : refused (derivation_of (bell 4)) ≡ 12 ∷ 3 ∷ 6 ∷ []
+  pub bell_refused : refused (derivation_of (bell 4)) ≡ 12 ∷ 3 ∷ 6 ∷ []
   -- Bell just opened: the third move of wire 1 waits for wire 0
   pub bell_waits : move_refused (derivation_of (bell 5)) (Move (record { 0 = 1 }) ∷ Move (record { 0 = 1 }) ∷ []) 1 ≡ 32 ∷ 5 ∷ 1 ∷ []
   -- Bell's h is not taken by a register, and its two gates have no room in a list of one record

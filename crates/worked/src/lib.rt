@@ -1,4 +1,6 @@
 // Worked programs, walked by the definitions that the contracts of the calls cite.
+#![tactic(auto)]
+
 ghost use Rattle.std.specs.Prelude.{◌≡◌};
 ghost use Rattle.worked.specs.Programs.{Programs};
 

@@ -7,8 +7,8 @@ use Rattle.channel_map.specs.ChannelMapLaws.{apply-by, kept_by, misused}
 use Rattle.channel_map.proofs.ChannelSteps.{few-wires, seats_part}
 use Rattle.channel_map.proofs.ChannelMapTarget.apply.Goals as goal
 
-pub slice-bounds-apply-end : goal.slice-bounds-apply-end
-slice-bounds-apply-end g c =
+pub slice_bounds-apply-end : goal.slice_bounds-apply-end
+slice_bounds-apply-end g c =
     let e = c.in-Some.ensures in omega (arith, few-wires c.args.wires.now e.0, e.1)
 
 pub returns-in-Some : goal.returns-in-Some
@@ -19,7 +19,7 @@ returns-in-Some g c =
     let e = c.in-Some.ensures in
     record {
       obeys =
-          apply-by t g.row.T-Target.taken g.row.T-Target.applied c.args.gate (numbers_of ws) _ (g.row.T-Target.view m.beneath) (g.row.T-Target.view c.apply.new.self) c.apply.result e.0
+          apply-by t g.T.Target.taken g.T.Target.applied c.args.gate (numbers_of ws) _ (g.T.Target.view m.beneath) (g.T.Target.view c.apply.new.self) c.apply.result e.0
           (seats_part (channel_of m.channels.table) ws c.in-Some.seats e.2) c.apply.ensures.obeys;
       kept = kept_by (λ b. record { channels = m.channels; beneath = b }) c.apply.result m.beneath c.apply.new.self c.apply.ensures.kept;
     }
@@ -29,6 +29,6 @@ returns-then-takes g c =
     let m = c.args.self.now in
     let t = table_of m.channels in
     record {
-      obeys = misused t g.row.T-Target.taken (g.row.T-Target.view m.beneath) c.args.gate (numbers_of c.args.wires.now) c.if-takes.ensures c.in-None.ensures;
+      obeys = misused t g.T.Target.taken (g.T.Target.view m.beneath) c.args.gate (numbers_of c.args.wires.now) c.if-takes.ensures c.in-None.ensures;
       kept = refl {a = m};
     }

@@ -12,7 +12,7 @@ pub returns : goal.returns
 returns g c =
     let m = c.width.new.self in
     let same = c.width.ensures.same in
-    let T = g.row.T-Target in
+    let T = g.T.Target in
     let last = c.begin.new.self in
     let r = c.begin.result in
     record {
@@ -24,8 +24,8 @@ returns g c =
           (mapped_view (table_of m.channels) (T.view last)))
           same
           (begin_by (table_of m.channels) T.begun c.args.used c.args.given c.args.ones c.width.result (T.view m.beneath) (T.view last) r
-          c.ranges.used.fits (c.width.ensures.value ∙ ap (λ (x : ChannelMap g.row.T.Denot). fitting (T.view x.beneath).width x.channels.table) (sym same)) c.in-default.ensures
-          c.channel-set-used.ensures c.channel-set-given.ensures c.channel-set-ones.ensures c.begin.ensures.obeys);
+          c.ranges.used.fits (c.width.ensures.value ∙ ap (λ (x : ChannelMap g.row.T.Denot). fitting (T.view x.beneath).width x.channels.table) (sym same)) c.in_default.ensures
+          c.channel_set-used.ensures c.channel_set-given.ensures c.channel_set-ones.ensures c.begin.ensures.obeys);
       kept =
           subst (λ (x : ChannelMap g.row.T.Denot). Kept r x (record { channels = m.channels; beneath = last })) same
           (kept_by (λ b. record { channels = m.channels; beneath = b }) r m.beneath last c.begin.ensures.kept);

@@ -4,14 +4,14 @@ use Rattle.derivation.specs.declared.types.TypeEntry.{TypeEntry}
 use Rattle.derivation.proofs.RowChecks.{power-step}
 use Rattle.derivation.proofs.check.+is_power.Goals as goal
 
-pub returns-then-is-node : goal.returns-then-is-node
-returns-then-is-node t c =
+pub returns-then-is_node : goal.returns-then-is_node
+returns-then-is_node t c =
     let step = power-step c.args.types.now c.args.n c.args.t.0 c.if-n-le1.false in
-    let right = ap (λ (e : TypeEntry). e.right.0) c.entry-at.ensures in
-    rw (step, ← right, ← c.is-node.ensures, c.if-is-node.true) c.is-power.ensures
+    let right = ap (λ (e : TypeEntry). e.right.0) c.entry_at.ensures in
+    rw (step, ← right, ← c.is_node.ensures, c.if-is_node.true) c.is_power.ensures
 
-pub returns-else-is-node : goal.returns-else-is-node
-returns-else-is-node t c =
+pub returns-else-is_node : goal.returns-else-is_node
+returns-else-is_node t c =
     let step = power-step c.args.types.now c.args.n c.args.t.0 c.if-n-le1.false in
-    let right = ap (λ (e : TypeEntry). e.right.0) c.entry-at.ensures in
-    rw (step, ← right, ← c.is-node.ensures, c.if-is-node.false) refl
+    let right = ap (λ (e : TypeEntry). e.right.0) c.entry_at.ensures in
+    rw (step, ← right, ← c.is_node.ensures, c.if-is_node.false) refl

@@ -1,4 +1,4 @@
 use Rattle.derivation.proofs.check.+is_power.Given as goal
 
-abbrev pub decreases-is-power : goal.decreases-is-power
-decreases-is-power l = l.n
+abbrev pub decreases-is_power : goal.decreases-is_power
+decreases-is_power l = l.n

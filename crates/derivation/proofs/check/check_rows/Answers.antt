@@ -11,50 +11,50 @@ use Rattle.derivation.proofs.RowChecks.{knows_start, knows_step, rows_so_far, en
 use Rattle.derivation.proofs.check.check_rows.Goals as goal
 
 pub loop-read-init : goal.loop-read-init
-loop-read-init c = (knows_start (vec_items c.new-rows.result) (vec_items c.new_envs.result) c.new-rows.ensures.items c.new_envs.ensures.items, refl)
+loop-read-init c = (knows_start (vec_items c.new-rows.result) (vec_items c.new-envs.result) c.new-rows.ensures.items c.new-envs.ensures.items, refl)
 
-pub checked-row-requires : goal.checked-row-requires
-checked-row-requires c =
+pub checked_row-requires : goal.checked_row-requires
+checked_row-requires c =
     let k = c.loop-read.invariant.0 in
-    let same = c.as-slice.ensures.value ∙ k.same in
+    let same = c.as_slice.ensures.value ∙ k.same in
     record {
-      few = omega (arith, c.as-slice.ensures.len, ap length c.as-slice.ensures.value, rows_so_far c.args.records.now c.loop-read.read-index _ _ _ k (omega arith));
-      envs = c.as-slice-in-loop-read.ensures.value ∙ k.surrounded ∙ ap environments (sym same);
+      few = omega (arith, c.as_slice.ensures.len, ap length c.as_slice.ensures.value, rows_so_far c.args.records.now c.loop-read.read-index _ _ _ k (omega arith));
+      envs = c.as_slice-in-loop-read.ensures.value ∙ k.surrounded ∙ ap environments (sym same);
       taken = k.used ∙ ap taken (sym same);
     }
 
-pub returns-in-err-row : goal.returns-in-err-row
-returns-in-err-row c =
-    let p = err_from_is_err_and c.from-residual.result c.from-residual.ensures.1 in
+pub returns-in_err-row : goal.returns-in_err-row
+returns-in_err-row c =
+    let p = err_from_is_err_and c.from_residual.result c.from_residual.ensures.1 in
     let k = c.loop-read.invariant.0 in
-    let same = c.as-slice.ensures.value ∙ k.same in
-    let e = subst (λ l. row_fault c.args.types.now l (get_or c.args.records.now c.loop-read.read-index no_record) ≡ Some c.in-err-row.field-0.0) same c.in-err-row.ensures in
-    rw (p.1, p.2) (inl (c.loop-read.invariant.1 ∙ first-at (row_fault c.args.types.now) row_of c.args.records.now c.loop-read.read-index no_record _ c.in-err-row.field-0.0 c.loop-read-test.true e))
+    let same = c.as_slice.ensures.value ∙ k.same in
+    let e = subst (λ l. row_fault c.args.types.now l (get_or c.args.records.now c.loop-read.read-index no_record) ≡ Some c.in_err-row.field-0.0) same c.in_err-row.ensures in
+    rw (p.1, p.2) (inl (c.loop-read.invariant.1 ∙ first-at (row_fault c.args.types.now) row_of c.args.records.now c.loop-read.read-index no_record _ c.in_err-row.field-0.0 c.loop-read-test.true e))
 
 pub environment-env-requires : goal.environment-env-requires
-environment-env-requires c = omega (arith, ap length c.as-slice-in-loop-read-2.ensures.value, envs_so_far c.args.records.now c.loop-read.read-index _ _ _ c.loop-read.invariant.0 (omega arith))
+environment-env-requires c = omega (arith, ap length c.as_slice-in-loop-read-2.ensures.value, envs_so_far c.args.records.now c.loop-read.read-index _ _ _ c.loop-read.invariant.0 (omega arith))
 
-pub with-premises-taken-requires : goal.with-premises-taken-requires
-with-premises-taken-requires c =
-    let h = c.in-ok-row.ensures in
+pub with_premises-taken-requires : goal.with_premises-taken-requires
+with_premises-taken-requires c =
+    let h = c.in_ok-row.ensures in
     subst⁻¹ (λ (row : Row). all_below 128 (premises row.rule) ≡ true) h.1
-    (lower-from_none c.args.types.now c.as-slice.result.now (get_or c.args.records.now c.loop-read.read-index no_record) h.0
-    (omega (arith, ap length c.as-slice.ensures.value, rows_so_far c.args.records.now c.loop-read.read-index _ _ _ c.loop-read.invariant.0 (omega arith))))
+    (lower-from_none c.args.types.now c.as_slice.result.now (get_or c.args.records.now c.loop-read.read-index no_record) h.0
+    (omega (arith, ap length c.as_slice.ensures.value, rows_so_far c.args.records.now c.loop-read.read-index _ _ _ c.loop-read.invariant.0 (omega arith))))
 
 pub loop-read-preserved : goal.loop-read-preserved
 loop-read-preserved c =
     let records = c.args.records.now in
     let i = c.loop-read.read-index in
-    let h = c.in-ok-row.ensures in
-    let row = c.in-ok-row.row in
+    let h = c.in_ok-row.ensures in
+    let row = c.in_ok-row.row in
     let k = c.loop-read.invariant.0 in
     let known = knows_step records i (vec_items c.loop-read.rows) (vec_items c.loop-read.envs) c.loop-read.taken k row c.loop-read-test.true h.1 in
-    let env = c.environment-env.ensures ∙ ap (λ l. environment l row) c.as-slice-in-loop-read-2.ensures.value in
-    let none = subst (λ l. row_fault c.args.types.now l (get_or records i no_record) ≡ None) (c.as-slice.ensures.value ∙ k.same) h.0 in (
+    let env = c.environment-env.ensures ∙ ap (λ l. environment l row) c.as_slice-in-loop-read-2.ensures.value in
+    let none = subst (λ l. row_fault c.args.types.now l (get_or records i no_record) ≡ None) (c.as_slice.ensures.value ∙ k.same) h.0 in (
       record {
-        same = c.in-ok-push-2.ensures.items ∙ known.same;
-        surrounded = c.in-ok-push.ensures.items ∙ ap (λ e. vec_items c.loop-read.envs ++ e ∷ []) env ∙ known.surrounded;
-        used = c.with-premises-taken.ensures ∙ known.used;
+        same = c.in_ok-push-2.ensures.items ∙ known.same;
+        surrounded = c.in_ok-push.ensures.items ∙ ap (λ e. vec_items c.loop-read.envs ++ e ∷ []) env ∙ known.surrounded;
+        used = c.with_premises-taken.ensures ∙ known.used;
       },
       c.loop-read.invariant.1 ∙ first-after (row_fault c.args.types.now) row_of records i no_record (map row_of (take i records)) c.loop-read-test.true none
           ∙ ap (λ l. first_fault (row_fault c.args.types.now) row_of l (drop (i + 1) records)) (sym (map_more row_of records i no_record c.loop-read-test.true)),

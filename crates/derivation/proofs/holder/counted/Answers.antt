@@ -8,20 +8,20 @@ use Rattle.derivation.proofs.holder.counted.Goals as goal
 pub bounds-envs-last : goal.bounds-envs-last
 bounds-envs-last c = omega (arith, ap length c.requires.surrounded, length-environments c.args.rows.now)
 
-pub wire-count-wires-requires : goal.wire-count-wires-requires
-wire-count-wires-requires c = record {
+pub wire_count-wires-requires : goal.wire_count-wires-requires
+wire_count-wires-requires c = record {
   sized = c.requires.sized;
   known = sound-known c.requires;
   small = sound-small c.requires;
-  some = c.requires.some-rows;
-  few = c.requires.few-rows;
-  env-last = sound-env c.requires;
+  some = c.requires.some_rows;
+  few = c.requires.few_rows;
+  env_last = sound-env c.requires;
 }
 
-pub place-count-places-requires : goal.place-count-places-requires
-place-count-places-requires c = record {
+pub place_count-places-requires : goal.place_count-places-requires
+place_count-places-requires c = record {
   sized = c.requires.sized;
   accepted = sound_accepted c.requires (whole_none c.args.types.now c.args.rows.now
-      (ap (λ m. lowest_missing m 0 (length c.args.rows.now - 1)) (sym c.requires.used) ∙ sym c.in-default.ensures)
-      (subst (λ n. n ≤ 32) c.wire-count-wires.ensures c.if-wires-gt32.false));
+      (ap (λ m. lowest_missing m 0 (length c.args.rows.now - 1)) (sym c.requires.used) ∙ sym c.in_default.ensures)
+      (subst (λ n. n ≤ 32) c.wire_count-wires.ensures c.if-wires-gt32.false));
 }

@@ -14,7 +14,7 @@ pub returns-then-contains : goal.returns-then-contains
 returns-then-contains c =
     let h = c.if-contains.ensures.cases in
     repeated c.args.before.now c.args.entry (omega arith) (omega arith)
-    (listed_true c.args.before.now c.args.entry c.args.entry h.0 h.1 (h.2 c.args.entry))
+    (listed_true c.args.before.now c.args.entry c.args.entry h.0 h.1 (sym (h.2 c.args.entry)))
     ∙ numbered RepeatedType (length c.args.before.now)
 
 pub bounds-sizes-entry : goal.bounds-sizes-entry
@@ -30,11 +30,11 @@ pub returns-in-Some : goal.returns-in-Some
 returns-in-Some c =
     let h = c.if-contains.ensures.cases in
     entry-fine c.args.before.now c.args.entry c.args.sizes.now _ c.requires.sized (omega arith) (omega arith) c.in-Some.size
-    (listed_false c.args.before.now c.args.entry c.args.entry (λ k l. h k c.args.entry (omega arith) l)) c.in-Some.ensures
+    (listed_false c.args.before.now c.args.entry c.args.entry (λ k l. sym (h k c.args.entry (omega arith) l))) c.in-Some.ensures
 
 pub returns-in-None : goal.returns-in-None
 returns-in-None c =
     let h = c.if-contains.ensures.cases in
     entry-wide c.args.before.now c.args.entry c.args.sizes.now _ c.requires.sized (omega arith) (omega arith)
-    (listed_false c.args.before.now c.args.entry c.args.entry (λ k l. h k c.args.entry (omega arith) l)) c.in-None.ensures
+    (listed_false c.args.before.now c.args.entry c.args.entry (λ k l. sym (h k c.args.entry (omega arith) l))) c.in-None.ensures
     ∙ numbered TooManyAtoms (length c.args.before.now)

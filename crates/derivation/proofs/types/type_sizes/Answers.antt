@@ -15,26 +15,26 @@ use Rattle.derivation.proofs.types.type_sizes.Goals as goal
 pub loop-i-init : goal.loop-i-init
 unfolding trees grown
 loop-i-init c =
-    (omega arith, c.in-ok-push.ensures.items ∙ ap (λ l. l ++ (record { atoms = 1; positive = 1 } ∷ [])) c.new-sizes.ensures.items, refl)
+    (omega arith, c.in_ok-push.ensures.items ∙ ap (λ l. l ++ (record { atoms = 1; positive = 1 } ∷ [])) c.new-sizes.ensures.items, refl)
 
-pub returns-in-err-size : goal.returns-in-err-size
-returns-in-err-size c =
-    let p = err_from_is_err_and c.from-residual-in-err-size.result c.from-residual-in-err-size.ensures.1 in
+pub returns-in_err-size : goal.returns-in_err-size
+returns-in_err-size c =
+    let p = err_from_is_err_and c.from_residual-in_err-size.result c.from_residual-in_err-size.ensures.1 in
     let es = c.args.types.now in
     let i = c.loop-i.i in
-    let e = subst (λ (n : ℕ). type_fault (take n es) (get_or es i no_entry) ≡ Some c.in-err-size.field-0.0) (sub-zero i) c.in-err-size.ensures in
-    rw (p.1, p.2) (inl (c.loop-i.invariant.2 ∙ first-at type_fault (λ x. x) es i no_entry (take i es) c.in-err-size.field-0.0 c.loop-i-test.true e))
+    let e = subst (λ (n : ℕ). type_fault (take n es) (get_or es i no_entry) ≡ Some c.in_err-size.field-0.0) (sub-zero i) c.in_err-size.ensures in
+    rw (p.1, p.2) (inl (c.loop-i.invariant.2 ∙ first-at type_fault (λ x. x) es i no_entry (take i es) c.in_err-size.field-0.0 c.loop-i-test.true e))
 
 pub loop-i-preserved : goal.loop-i-preserved
 loop-i-preserved c =
-    let e = c.in-ok-size.ensures in
+    let e = c.in_ok-size.ensures in
     let es = c.args.types.now in
     let i = c.loop-i.i in
     let h = c.loop-i-test.true in
     let none = subst (λ (n : ℕ). type_fault (take n es) (get_or es i no_entry) ≡ None) (sub-zero i) e.0 in
-    let size = subst (λ (n : ℕ). c.in-ok-size.size ≡ size_of (unfolded (trees (take n es)) (get_or es i no_entry))) (sub-zero i) e.1 in (
+    let size = subst (λ (n : ℕ). c.in_ok-size.size ≡ size_of (unfolded (trees (take n es)) (get_or es i no_entry))) (sub-zero i) e.1 in (
       omega arith,
-      c.in-ok-push-2.ensures.items ∙ ap₂ (λ (l : List Size) (s : Size). l ++ (s ∷ [])) c.loop-i.invariant.1 size ∙ sym (sizes_more es i no_entry h),
+      c.in_ok-push-2.ensures.items ∙ ap₂ (λ (l : List Size) (s : Size). l ++ (s ∷ [])) c.loop-i.invariant.1 size ∙ sym (sizes_more es i no_entry h),
       c.loop-i.invariant.2 ∙ first-after type_fault (λ x. x) es i no_entry (take i es) h none ∙ ap (λ l. first_fault type_fault (λ x. x) l (drop (i + 1) es)) (sym (take_more es i no_entry h)),
     )
 

@@ -8,8 +8,8 @@ use Rattle.derivation.proofs.FormatLaws.{encode-bound}
 use Rattle.derivation.proofs.WriterLaws.{joined_room, length_joined-more, encode-length-rows}
 use Rattle.derivation.proofs.writer.encoded_len.Goals as goal
 
-pub overflow-add-len-in-loop-row : goal.overflow-add-len-in-loop-row
-overflow-add-len-in-loop-row c =
+pub overflow_add-len-in-loop-row : goal.overflow_add-len-in-loop-row
+overflow_add-len-in-loop-row c =
     let es = c.args.types.now in
     let rows = c.args.rows.now in
     omega (
@@ -17,7 +17,7 @@ overflow-add-len-in-loop-row c =
       c.loop-row.invariant,
       joined_room row_bytes rows c.loop-row.row-index no_row c.loop-row-test.true,
       encode-length-rows es rows,
-      encode-bound es rows c.requires.few-types c.requires.few-rows,
+      encode-bound es rows c.requires.few_types c.requires.few_rows,
     )
 
 pub loop-row-preserved : goal.loop-row-preserved

@@ -5,6 +5,6 @@ use Rattle.derivation.proofs.writer.put_bytes.Goals as goal
 
 pub returns : goal.returns
 returns c = record {
-  after = put-from_part c.args.buffer.now c.args.at c.args.bytes.now c.copy-from-slice.new.self c.copy-from-slice.ensures.after;
+  after = put-from_part c.args.buffer.now c.args.at c.args.bytes.now c.copy_from_slice.new.self c.copy_from_slice.ensures.after;
   end = refl;
 }

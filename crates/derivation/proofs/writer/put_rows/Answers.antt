@@ -8,15 +8,15 @@ use Rattle.derivation.proofs.writer.put_rows.Goals as goal
 pub loop-row-init : goal.loop-row-init
 loop-row-init c = stands_none row_bytes c.args.buffer.now c.args.at
 
-pub put-row-end-requires : goal.put-row-end-requires
-put-row-end-requires c =
+pub put_row-end-requires : goal.put_row-end-requires
+put_row-end-requires c =
     omega (arith, c.loop-row.invariant.0, joined_room row_bytes c.args.rows.now c.loop-row.row-index no_row c.loop-row-test.true)
 
 pub loop-row-preserved : goal.loop-row-preserved
 loop-row-preserved c =
     stands-more row_bytes c.args.buffer.now c.args.at c.args.rows.now c.requires c.loop-row.row-index no_row c.loop-row-test.true
-    c.loop-row.end c.put-row-end.result c.loop-row.buffer c.put-row-end.new.buffer
-    c.loop-row.invariant c.put-row-end.ensures.end c.put-row-end.ensures.after
+    c.loop-row.end c.put_row-end.result c.loop-row.buffer c.put_row-end.new.buffer
+    c.loop-row.invariant c.put_row-end.ensures.end c.put_row-end.ensures.after
 
 pub returns : goal.returns
 returns c =

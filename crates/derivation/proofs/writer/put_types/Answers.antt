@@ -8,15 +8,15 @@ use Rattle.derivation.proofs.writer.put_types.Goals as goal
 pub loop-ty-init : goal.loop-ty-init
 loop-ty-init c = stands_none type_bytes c.args.buffer.now c.args.at
 
-pub put-type-end-requires : goal.put-type-end-requires
-put-type-end-requires c =
+pub put_type-end-requires : goal.put_type-end-requires
+put_type-end-requires c =
     omega (arith, c.loop-ty.invariant.0, joined_room type_bytes c.args.types.now c.loop-ty.ty-index no_entry c.loop-ty-test.true)
 
 pub loop-ty-preserved : goal.loop-ty-preserved
 loop-ty-preserved c =
     stands-more type_bytes c.args.buffer.now c.args.at c.args.types.now c.requires c.loop-ty.ty-index no_entry c.loop-ty-test.true
-    c.loop-ty.end c.put-type-end.result c.loop-ty.buffer c.put-type-end.new.buffer
-    c.loop-ty.invariant c.put-type-end.ensures.end c.put-type-end.ensures.after
+    c.loop-ty.end c.put_type-end.result c.loop-ty.buffer c.put_type-end.new.buffer
+    c.loop-ty.invariant c.put_type-end.ensures.end c.put_type-end.ensures.after
 
 pub returns : goal.returns
 returns c =

@@ -6,34 +6,34 @@ use Rattle.derivation.proofs.FormatLaws.{encode-bound}
 use Rattle.derivation.proofs.WriterLaws.{room, answered, written}
 use Rattle.derivation.proofs.writer.write_derivation.Goals as goal
 
-pub overflow-cast-header : goal.overflow-cast-header
-overflow-cast-header c =
-    omega (arith, c.encoded-len-len.ensures, encode-bound c.args.types.now c.args.rows.now c.requires.few-types c.requires.few-rows)
+pub overflow_cast-header : goal.overflow_cast-header
+overflow_cast-header c =
+    omega (arith, c.encoded_len-len.ensures, encode-bound c.args.types.now c.args.rows.now c.requires.few_types c.requires.few_rows)
 
-pub put-bytes-types-at-requires : goal.put-bytes-types-at-requires
-put-bytes-types-at-requires c =
-    omega (arith, room c.args.types.now c.args.rows.now c.args.buffer.now _ c.encoded-len-len.ensures c.if-len-buffer.false)
+pub put_bytes-types_at-requires : goal.put_bytes-types_at-requires
+put_bytes-types_at-requires c =
+    omega (arith, room c.args.types.now c.args.rows.now c.args.buffer.now _ c.encoded_len-len.ensures c.if-len-buffer.false)
 
-pub put-types-rows-at-requires : goal.put-types-rows-at-requires
-put-types-rows-at-requires c =
-    omega (arith, room c.args.types.now c.args.rows.now c.args.buffer.now _ c.encoded-len-len.ensures c.if-len-buffer.false)
+pub put_types-rows_at-requires : goal.put_types-rows_at-requires
+put_types-rows_at-requires c =
+    omega (arith, room c.args.types.now c.args.rows.now c.args.buffer.now _ c.encoded_len-len.ensures c.if-len-buffer.false)
 
-pub put-rows-requires : goal.put-rows-requires
-put-rows-requires c =
-    omega (arith, room c.args.types.now c.args.rows.now c.args.buffer.now _ c.encoded-len-len.ensures c.if-len-buffer.false)
+pub put_rows-requires : goal.put_rows-requires
+put_rows-requires c =
+    omega (arith, room c.args.types.now c.args.rows.now c.args.buffer.now _ c.encoded_len-len.ensures c.if-len-buffer.false)
 
 pub returns : goal.returns
 returns c =
     let es = c.args.types.now in
     let rows = c.args.rows.now in
     let s = c.args.buffer.now in
-    let n = c.encoded-len-len.result in
-    let end : c.put-rows.result ≡ 5 + length (flat_map type_bytes es) + length (flat_map row_bytes rows) = omega arith in
+    let n = c.encoded_len-len.result in
+    let end : c.put_rows.result ≡ 5 + length (flat_map type_bytes es) + length (flat_map row_bytes rows) = omega arith in
     record {
-      answer = answered es rows s n c.encoded-len-len.ensures c.if-len-buffer.false c.put-rows.result end;
-      after = written es rows s n c.encoded-len-len.ensures c.if-len-buffer.false
-          c.put-bytes-types-at.new.buffer c.put-types-rows-at.new.buffer c.put-rows.new.buffer
-          c.put-bytes-types-at.result c.put-types-rows-at.result
-          c.put-bytes-types-at.ensures.after c.put-bytes-types-at.ensures.end
-          c.put-types-rows-at.ensures.after c.put-types-rows-at.ensures.end c.put-rows.ensures.after;
+      answer = answered es rows s n c.encoded_len-len.ensures c.if-len-buffer.false c.put_rows.result end;
+      after = written es rows s n c.encoded_len-len.ensures c.if-len-buffer.false
+          c.put_bytes-types_at.new.buffer c.put_types-rows_at.new.buffer c.put_rows.new.buffer
+          c.put_bytes-types_at.result c.put_types-rows_at.result
+          c.put_bytes-types_at.ensures.after c.put_bytes-types_at.ensures.end
+          c.put_types-rows_at.ensures.after c.put_types-rows_at.ensures.end c.put_rows.ensures.after;
     }

@@ -11,7 +11,7 @@ returns c =
     let before = list_view items t.count t.used t.given t.ones in
     record {
       obeys = (
-        sym c.in-default.ensures,
+        sym c.in_default.ensures,
         ap (λ (s : State). record { state = s; used = c.args.used; count = 0; width = 32; capacity = room items })
             (state_none items c.args.used c.args.given c.args.ones before.state),
       );

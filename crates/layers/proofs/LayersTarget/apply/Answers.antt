@@ -9,26 +9,26 @@ use Rattle.layers.proofs.LayersTarget.apply.Goals as goal
 pub greatest-layer-requires : goal.greatest-layer-requires
 greatest-layer-requires c =
     let t = c.args.self.now in
-    clear_below 32 (omega arith) (clear c.takes.result t.used t.count _ c.args.gate (numbers_of c.args.wires.now) c.in-default.ensures)
+    clear_below 32 (omega arith) (clear c.takes.result t.used t.count _ c.args.gate (numbers_of c.args.wires.now) c.in_default.ensures)
 
-pub overflow-add-layer : goal.overflow-add-layer
-overflow-add-layer c =
+pub overflow_add-layer : goal.overflow_add-layer
+overflow_add-layer c =
     let t = c.args.self.now in
     let few = t.few in
     let low = greatest_shallow t.depth t.count t.shallow (numbers_of c.args.wires.now) in
     record { fits = omega arith }
 
-pub set-all-requires : goal.set-all-requires
-set-all-requires c =
+pub set_all-requires : goal.set_all-requires
+set_all-requires c =
     let t = c.args.self.now in
-    clear_below 32 (omega arith) (clear c.takes.result t.used t.count _ c.args.gate (numbers_of c.args.wires.now) c.in-default.ensures)
+    clear_below 32 (omega arith) (clear c.takes.result t.used t.count _ c.args.gate (numbers_of c.args.wires.now) c.in_default.ensures)
 
-pub invariant-of-self : goal.invariant-of-self
-invariant-of-self c =
+pub invariant_of-self : goal.invariant_of-self
+invariant_of-self c =
     let t = c.args.self.now in
     let ws = numbers_of c.args.wires.now in
-    let room = (clear c.takes.result t.used t.count _ c.args.gate ws c.in-default.ensures).room in
-    let after : c.set-all.new.depth ≡ layered c.args.gate ws t.depth =
-    c.set-all.ensures ∙ ap (set_all t.depth ws) (add-one c.greatest-layer.result ∙ ap suc c.greatest-layer.ensures) in
+    let room = (clear c.takes.result t.used t.count _ c.args.gate ws c.in_default.ensures).room in
+    let after : c.set_all.new.depth ≡ layered c.args.gate ws t.depth =
+    c.set_all.ensures ∙ ap (set_all t.depth ws) (add-one c.greatest-layer.result ∙ ap suc c.greatest-layer.ensures) in
     let low = layered_shallow c.args.gate t.depth ws t.count t.shallow in
-    (omega arith, (λ i. rw after (omega (arith, low i)), tt))
+    record { few = omega arith; shallow = λ i. rw after (omega (arith, low i)) }

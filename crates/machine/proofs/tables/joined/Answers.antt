@@ -2,8 +2,6 @@
 use Rattle.std.proofs.Common.{◌≡◌, ℕ, ◌+◌, ◌-◌, ◌*◌, ◌%◌, ◌^◌, ap, ◌∙◌, ap₂, arith}
 use lib.Bits.{bit_or, bit_xor}
 use Rattle.std.proofs.lemmas.Nat.{shl_whole, one_shl}
-use Rattle.machine.specs.declared.tables.TypeFacts.{TypeFacts}
-use Rattle.machine.specs.Facts.{joined_facts}
 use Rattle.machine.proofs.tables.joined.Goals as goal
 use Rattle.machine.proofs.tables.joined.Goals.{in-Arrow, in-Pair}
 

@@ -1,5 +1,5 @@
 -- The loop over the table: the parts of an entry are lower, so their facts are known.
-use Rattle.std.proofs.Common.{List, [], ◌∷◌, ◌++◌, map, vec_items, ap, ◌∙◌, arith}
+use Rattle.std.proofs.Common.{[], ◌∷◌, ◌++◌, map, vec_items, ap, ◌∙◌, arith}
 use Rattle.std.proofs.lemmas.List.{take_all}
 use Rattle.derivation.specs.Growth.{grown}
 use Rattle.derivation.specs.Trees.{trees}
@@ -10,7 +10,7 @@ use Rattle.machine.proofs.tables.type_facts.Goals as goal
 
 pub loop-entry-init : goal.loop-entry-init
 unfolding trees grown
-loop-entry-init c = c.in-ok-push.ensures.items ∙ ap (λ l. l ++ (record { width = 1; signs = 1 } ∷ [])) c.new-facts.ensures.items
+loop-entry-init c = c.in_ok-push.ensures.items ∙ ap (λ l. l ++ (record { width = 1; signs = 1 } ∷ [])) c.new-facts.ensures.items
 
 pub index-left-requires : goal.index-left-requires
 index-left-requires c = omega (arith, c.loop-entry.facts.ok.0, left-known c.args.types.now c.requires c.loop-entry.entry-index c.loop-entry-test.true (vec_items c.loop-entry.facts) c.loop-entry.invariant)
@@ -34,7 +34,7 @@ joined-requires c =
 
 pub loop-entry-preserved : goal.loop-entry-preserved
 loop-entry-preserved c =
-    c.in-ok-push-2.ensures.items
+    c.in_ok-push-2.ensures.items
     ∙ ap (λ (f : TypeFacts). vec_items c.loop-entry.facts ++ (f ∷ [])) c.joined.ensures
     ∙ facts-more c.args.types.now c.requires c.loop-entry.entry-index c.loop-entry-test.true (vec_items c.loop-entry.facts) c.loop-entry.invariant
     c.index-left.result.now c.index-right.result.now c.index-left.ensures c.index-right.ensures

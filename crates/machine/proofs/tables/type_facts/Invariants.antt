@@ -1,4 +1,4 @@
-use Rattle.std.proofs.Common.{◌≡◌, ◌≤◌, map, length, take, vec_items}
+use Rattle.std.proofs.Common.{◌≡◌, map, take, vec_items}
 use Rattle.derivation.specs.Trees.{trees}
 use Rattle.machine.specs.Facts.{facts_of}
 use Rattle.machine.proofs.tables.type_facts.Given as goal

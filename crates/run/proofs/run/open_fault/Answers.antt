@@ -4,8 +4,8 @@ use Rattle.derivation.specs.declared.rows.Row.{Row}
 use Rattle.derivation.proofs.AcceptedLaws.{accepted_from_valid}
 use Rattle.run.proofs.run.open_fault.Goals as goal
 
-pub gate-not-taken-requires : goal.gate-not-taken-requires
-gate-not-taken-requires g c =
+pub gate_not_taken-requires : goal.gate_not_taken-requires
+gate_not_taken-requires g c =
     let h = c.args.holder.now in
     let few = (accepted_from_valid (vec_items h.types) (vec_items h.rows) h.accepted).few in
     subst (λ (rows : List Row). length rows ≤ 128) (sym c.rows.ensures) few

@@ -15,7 +15,7 @@ seated_by used n g ws e = ap (λ k. eqb k (arity g) && all_in used (numbers_of w
 pub returns-then-wires-arity : goal.returns-then-wires-arity
 returns-then-wires-arity c =
     let all : Bool = all_in c.args.used (numbers_of c.args.wires.now) in
-    c.all-in.ensures
+    c.all_in.ensures
     ∙ sym (seated_by c.args.used c.arity.result c.args.gate c.args.wires.now c.arity.ensures ∙ ap (λ b. b && all) (eq-eqb (length c.args.wires.now) c.arity.result c.if-wires-arity.true))
 
 pub returns-else-wires-arity : goal.returns-else-wires-arity

@@ -8,9 +8,9 @@ use Rattle.text.proofs.booking.push_start_lines.Goals as goal
 
 pub loop-wire-preserved : goal.loop-wire-preserved
 loop-wire-preserved c =
-    c.in-ok-push-str.ensures.bytes
+    c.in_ok-push_str.ensures.bytes
     ∙ start_lines-more (string_bytes c.args.text.now) c.args.starts.now c.loop-wire.wire Given c.loop-wire-test.true c.loop-wire.invariant
-    (c.as-str.ensures.value ∙ c.in-ok-line.ensures)
+    (c.as_str.ensures.value ∙ c.in_ok-line.ensures)
 
 pub returns : goal.returns
 returns c =

@@ -12,11 +12,11 @@ pub loop-init : goal.loop-init
 loop-init c =
     (c.requires, ap (λ (k : ℕ). followed (vec_items c.args.machine.now.types) (vec_items c.args.machine.now.rows) k c.args.place) (sym (sub-zero c.args.times)))
 
-pub returns-in-default : goal.returns-in-default
-returns-in-default c =
+pub returns-in_default : goal.returns-in_default
+returns-in_default c =
     let es = vec_items c.args.machine.now.types in
     let rows = vec_items c.args.machine.now.rows in
-    sym (c.loop.invariant.1 ∙ followed_end es rows (c.args.times - c.loop.counter) c.loop.p (called es rows c.loop.p None c.loop.invariant.0 c.in-default.ensures))
+    sym (c.loop.invariant.1 ∙ followed_end es rows (c.args.times - c.loop.counter) c.loop.p (called es rows c.loop.p None c.loop.invariant.0 c.in_default.ensures))
 
 pub loop-preserved : goal.loop-preserved
 loop-preserved c =

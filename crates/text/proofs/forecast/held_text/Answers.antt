@@ -7,6 +7,6 @@ use Rattle.text.proofs.forecast.held_text.Goals as goal
 pub returns : goal.returns
 returns c =
     let same = c.in-Ok.ensures.copied in
-    c.in-ok-push-end-lines.ensures
-    ∙ ap₂ (λ (t ws : List ℕ). t ++ end_lines 0 ws) c.in-ok-text.ensures
-    (end-wires same.0 same.1 c.moves.ensures (c.as-slice.ensures.value ∙ c.in-ok-places.ensures) c.ends.ensures)
+    c.in_ok-push_end_lines.ensures
+    ∙ ap₂ (λ (t ws : List ℕ). t ++ end_lines 0 ws) c.in_ok-text.ensures
+    (end-wires same.0 same.1 c.moves.ensures (c.as_slice.ensures.value ∙ c.in_ok-places.ensures) c.ends.ensures)

@@ -28,7 +28,7 @@ loop-start-preserved c =
     let same = c.starts-start-items.ensures in
     let go = followed es rows c.args.times in
     let here : c.follow.result ≡ go (get_or (starts es rows) i no_place) = c.follow.ensures ∙ ap (λ (l : List Place). go (get_or l i no_place)) same in
-    c.in-ok-push.ensures.items
+    c.in_ok-push.ensures.items
     ∙ ap₂ (λ (l : List Place) (p : Place). l ++ p ∷ []) c.loop-start.invariant here
     ∙ sym (map_more go (starts es rows) i no_place (subst (λ (l : List Place). i < length l) same c.loop-start-test.true))
 

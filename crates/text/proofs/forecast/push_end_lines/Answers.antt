@@ -13,9 +13,9 @@ loop-end-preserved c =
     let places = c.args.places.now in
     let wires = map (wire_at places) ends in
     let wire : c.position.result ≡ get_or wires c.loop-end.end 0 = c.position.ensures ∙ sym (get_or-map (wire_at places) ends c.loop-end.end no_place 0 c.loop-end-test.true) in
-    c.in-ok-push-str.ensures.bytes
+    c.in_ok-push_str.ensures.bytes
     ∙ end_lines-more (string_bytes c.args.text.now) wires c.loop-end.end (subst⁻¹ (λ (n : ℕ). c.loop-end.end < n) (length-map ends (wire_at places)) c.loop-end-test.true) c.loop-end.invariant
-    (c.as-str.ensures.value ∙ c.in-ok-line.ensures ∙ ap (λ (w : ℕ). end_lines c.loop-end.end (w ∷ [])) wire)
+    (c.as_str.ensures.value ∙ c.in_ok-line.ensures ∙ ap (λ (w : ℕ). end_lines c.loop-end.end (w ∷ [])) wire)
 
 pub returns : goal.returns
 returns c =

@@ -8,8 +8,8 @@ use Rattle.channel_map.proofs.channels.Channels.channel_set.Goals.{then-has, els
 pub loop-w-init : goal.loop-w-init
 loop-w-init c = channels_start c.args.self.now.table c.args.wires
 
-pub overflow-shl-channels : goal.overflow-shl-channels
-overflow-shl-channels c =
+pub overflow_shl-channels : goal.overflow_shl-channels
+overflow_shl-channels c =
     let t = c.args.self.now in omega (arith, table-low (table_of t) c.loop-w.w c.loop-w-test.true)
 
 pub loop-w-preserved : goal.loop-w-preserved

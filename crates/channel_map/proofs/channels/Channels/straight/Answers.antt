@@ -12,10 +12,13 @@ loop-i-preserved c =
     let inv = c.loop-i.invariant in
     (length-set xs i _ ∙ inv.0, filled_more (λ k. k) xs i (omega arith) inv.1)
 
-pub invariant-of-result : goal.invariant-of-result
-invariant-of-result c =
+pub invariant_of-result : goal.invariant_of-result
+invariant_of-result c =
     let inv = c.loop-i.invariant in
-    (inv.0, (ap (λ t. is_some (table_fault t)) (straight_filled c.loop-i.table inv.0 (λ k h. inv.1 k (omega arith))) ∙ straight_faultless, tt))
+    record {
+      whole = inv.0;
+      faultless = ap (λ t. is_some (table_fault t)) (straight_filled c.loop-i.table inv.0 (λ k h. inv.1 k (omega arith))) ∙ straight_faultless;
+    }
 
 pub returns : goal.returns
 returns c = straight_filled c.loop-i.table c.loop-i.invariant.0 (λ k h. c.loop-i.invariant.1 k (omega arith))

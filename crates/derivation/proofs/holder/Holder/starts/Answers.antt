@@ -5,12 +5,12 @@ use Rattle.derivation.specs.Starts.{bit_starts}
 use Rattle.derivation.proofs.StartLaws.{bit-starts_le, starts-given}
 use Rattle.derivation.proofs.holder.Holder.starts.Goals as goal
 
-pub wire-starts-requires : goal.wire-starts-requires
-wire-starts-requires c =
+pub wire_starts-requires : goal.wire_starts-requires
+wire_starts-requires c =
     let h = c.args.self.now in
-    omega (arith, ap (λ l. length (bit_starts l)) c.as-slice.ensures.value, bit-starts_le (vec_items h.types) (vec_items h.rows), h.wired)
+    omega (arith, ap (λ l. length (bit_starts l)) c.as_slice.ensures.value, bit-starts_le (vec_items h.types) (vec_items h.rows), h.wired)
 
 pub returns : goal.returns
 returns c =
     let h = c.args.self.now in
-    MatchResult-weaker c.wire-starts.result c.wire-starts.ensures (λ v e. e ∙ starts-given (vec_items h.types) c.as-slice.ensures.value h.wired) (λ e m. m)
+    MatchResult-weaker c.wire_starts.result c.wire_starts.ensures (λ v e. e ∙ starts-given (vec_items h.types) c.as_slice.ensures.value h.wired) (λ e m. m)

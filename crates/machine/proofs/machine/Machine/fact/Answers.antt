@@ -1,4 +1,4 @@
-use Rattle.std.proofs.Common.{length, vec_items, ap, arith}
+use Rattle.std.proofs.Common.{vec_items, arith}
 use Rattle.machine.proofs.MoveTables.{known-row, known_past}
 use Rattle.machine.proofs.StartTables.{length-row-facts}
 use Rattle.machine.proofs.machine.Machine.fact.Goals as goal

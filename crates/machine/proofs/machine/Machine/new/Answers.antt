@@ -1,5 +1,5 @@
 -- The machine has the holder's derivation, and its tables are those of that derivation.
-use Rattle.std.proofs.Common.{◌≡◌, ℕ, ◌-◌, ◌<◌, ◌≤◌, true, false, List, map, length, vec_items, sym, ap, ◌∙◌, ap₂, subst₂, arith}
+use Rattle.std.proofs.Common.{◌≡◌, ◌-◌, ◌<◌, false, List, map, length, vec_items, sym, ap, ◌∙◌, ap₂, subst₂, arith}
 use Rattle.derivation.specs.declared.types.TypeEntry.{TypeEntry}
 use Rattle.derivation.specs.declared.rows.Row.{Row}
 use Rattle.derivation.specs.Accepted.{Accepted, valid}
@@ -11,72 +11,69 @@ use Rattle.machine.specs.Facts.{facts_at, signed_at, starts_by}
 use Rattle.machine.proofs.StartTables.{length-row-facts, starts_are, ends_are}
 use Rattle.theory.proofs.Assembled.{theory}
 use Rattle.machine.proofs.machine.Machine.new.Goals as goal
-use Rattle.machine.proofs.machine.Machine.new.Goals.{After-environments, After-as-slice-4}
+use Rattle.machine.proofs.machine.Machine.new.Goals.{After-environments, After-as_slice-4}
 
-types_are : (c : After-environments) → c.as-slice.result.now ≡ vec_items c.args.holder.now.types
-types_are c = c.as-slice.ensures.value ∙ c.in-ok-types.ensures.items ∙ c.types.ensures
+types_are : (c : After-environments) → c.as_slice.result.now ≡ vec_items c.args.holder.now.types
+types_are c = c.as_slice.ensures.value ∙ c.in_ok-types.ensures.items ∙ c.types.ensures
 
-rows_are : (c : After-environments) → c.as-slice-2.result.now ≡ vec_items c.args.holder.now.rows
-rows_are c = c.as-slice-2.ensures.value ∙ c.in-ok-rows.ensures.items ∙ c.rows.ensures
+rows_are : (c : After-environments) → c.as_slice-2.result.now ≡ vec_items c.args.holder.now.rows
+rows_are c = c.as_slice-2.ensures.value ∙ c.in_ok-rows.ensures.items ∙ c.rows.ensures
 
-accepts : (c : After-environments) → Accepted c.as-slice.result.now c.as-slice-2.result.now
+accepts : (c : After-environments) → Accepted c.as_slice.result.now c.as_slice-2.result.now
 accepts c =
     subst₂ (λ (es : List TypeEntry) (rows : List Row). Accepted es rows) (sym (types_are c)) (sym (rows_are c))
     (accepted_from_valid (vec_items c.args.holder.now.types) (vec_items c.args.holder.now.rows) c.args.holder.now.accepted)
 
-pub row-facts-requires : goal.row-facts-requires
-row-facts-requires c = record { accepted = accepts c; surrounded = c.environments.ensures ∙ ap environments (sym (rows_are c)) }
+pub row_facts-requires : goal.row_facts-requires
+row_facts-requires c = record { accepted = accepts c; surrounded = c.environments.ensures ∙ ap environments (sym (rows_are c)) }
 
 -- as many facts as rows
-facts-count : (c : After-as-slice-4) → length (vec_items c.in-ok-facts.facts) ≡ length c.as-slice-2.result.now
-facts-count c = length-row-facts c.as-slice.result.now c.as-slice-2.result.now (vec_items c.in-ok-facts.facts) c.in-ok-facts.ensures
+facts-count : (c : After-as_slice-4) → length (vec_items c.in_ok-facts.facts) ≡ length c.as_slice-2.result.now
+facts-count c = length-row-facts c.as_slice.result.now c.as_slice-2.result.now (vec_items c.in_ok-facts.facts) c.in_ok-facts.ensures
 
-pub start-places-requires : goal.start-places-requires
-start-places-requires c =
-    let ok = accepts (goal.at.start-places-requires c).After-environments in
+pub start_places-requires : goal.start_places-requires
+start_places-requires c =
+    let ok = accepts (goal.at.start_places-requires c).After-environments in
     let n = facts-count c in
-    let same = ap length c.as-slice-3.ensures.value in
+    let same = ap length c.as_slice-3.ensures.value in
     record {
       some = omega (arith, ok.some);
       few = omega (arith, ok.few);
-      few-rows = omega (arith, ok.few, ap length c.as-slice-2.ensures.value, ap length c.as-slice-4.ensures.value);
+      few_rows = omega (arith, ok.few, ap length c.as_slice-2.ensures.value, ap length c.as_slice-4.ensures.value);
     }
 
-pub last-places-requires : goal.last-places-requires
-last-places-requires c =
-    let ok = accepts (goal.at.last-places-requires c).After-environments in
-    let n = facts-count (goal.at.last-places-requires c).After-as-slice-4 in
-    let same = ap length c.as-slice-5.ensures.value in
+pub last_places-requires : goal.last_places-requires
+last_places-requires c =
+    let ok = accepts (goal.at.last_places-requires c).After-environments in
+    let n = facts-count (goal.at.last_places-requires c).After-as_slice-4 in
+    let same = ap length c.as_slice-5.ensures.value in
     record { some = omega (arith, ok.some); few = omega (arith, ok.few) }
 
-pub invariant-of-result : goal.invariant-of-result
-invariant-of-result c =
-    let e = (goal.at.invariant-of-result c).After-environments in
-    let es = vec_items c.in-ok-types.types in
-    let rows = vec_items c.in-ok-rows.rows in
-    let facts = vec_items c.in-ok-facts.facts in
-    let held_types = c.in-ok-types.ensures.items ∙ c.types.ensures in
-    let held_rows = c.in-ok-rows.ensures.items ∙ c.rows.ensures in
+pub invariant_of-result : goal.invariant_of-result
+invariant_of-result c =
+    let e = (goal.at.invariant_of-result c).After-environments in
+    let es = vec_items c.in_ok-types.types in
+    let rows = vec_items c.in_ok-rows.rows in
+    let facts = vec_items c.in_ok-facts.facts in
+    let held_types = c.in_ok-types.ensures.items ∙ c.types.ensures in
+    let held_rows = c.in_ok-rows.ensures.items ∙ c.rows.ensures in
     let known : facts ≡ map (facts_at es rows) (numbers 0 (length rows)) =
-    c.in-ok-facts.ensures
-    ∙ ap₂ (λ (l : List TypeEntry) (r : List Row). map (facts_at l r) (numbers 0 (length r))) c.as-slice.ensures.value c.as-slice-2.ensures.value in
-    let some : 0 < length rows = omega (arith, (accepts e).some, ap length c.as-slice-2.ensures.value) in (
-      ap₂ valid held_types held_rows ∙ c.args.holder.now.accepted,
-      (
-        known,
-        (
-          c.in-ok-starts.ensures ∙ ap₂ starts_by c.as-slice-3.ensures.value c.as-slice-4.ensures.value ∙ starts_are es rows facts known some,
-          (c.in-ok-ends.ensures ∙ ap (λ (l : List RowFacts). signed_at l false (length l - 1)) c.as-slice-5.ensures.value ∙ ends_are es rows facts known some, tt),
-        ),
-      ),
-    )
+    c.in_ok-facts.ensures
+    ∙ ap₂ (λ (l : List TypeEntry) (r : List Row). map (facts_at l r) (numbers 0 (length r))) c.as_slice.ensures.value c.as_slice-2.ensures.value in
+    let some : 0 < length rows = omega (arith, (accepts e).some, ap length c.as_slice-2.ensures.value) in
+    record {
+      accepted = ap₂ valid held_types held_rows ∙ c.args.holder.now.accepted;
+      known = known;
+      begun = c.in_ok-starts.ensures ∙ ap₂ starts_by c.as_slice-3.ensures.value c.as_slice-4.ensures.value ∙ starts_are es rows facts known some;
+      ended = c.in_ok-ends.ensures ∙ ap (λ (l : List RowFacts). signed_at l false (length l - 1)) c.as_slice-5.ensures.value ∙ ends_are es rows facts known some;
+    }
 
 pub returns : goal.returns
 returns c =
-    let held_types = c.in-ok-types.ensures.items ∙ c.types.ensures in
-    let held_rows = c.in-ok-rows.ensures.items ∙ c.rows.ensures in
+    let held_types = c.in_ok-types.ensures.items ∙ c.types.ensures in
+    let held_rows = c.in_ok-rows.ensures.items ∙ c.rows.ensures in
     record {
       copied = (held_types, held_rows);
-      theory = theory (vec_items c.in-ok-types.types) (vec_items c.in-ok-rows.rows)
+      theory = theory (vec_items c.in_ok-types.types) (vec_items c.in_ok-rows.rows)
           (accepted_from_valid _ _ (ap₂ valid held_types held_rows ∙ c.args.holder.now.accepted));
     }

@@ -9,29 +9,29 @@ use Rattle.run.specs.declared.books.Waiting.{Waiting}
 use Rattle.run.specs.Books.{Fit, Kept, books_of, nobody, settled_from}
 use Rattle.run.proofs.BookSteps.{fresh_fit, settled_fit, settled_next}
 use Rattle.run.proofs.books.Books.new.Goals as goal
-use Rattle.run.proofs.books.Books.new.Goals.{In-ok-waiting}
+use Rattle.run.proofs.books.Books.new.Goals.{In_ok-waiting}
 
-few : (c : In-ok-waiting) → length c.starts-starts.result.now ≤ 32
+few : (c : In_ok-waiting) → length c.starts-starts.result.now ≤ 32
 few c =
     let m = c.args.machine.now in
     omega (arith, ap length c.starts-starts.ensures, starts-few (vec_items m.types) (vec_items m.rows) m.accepted)
 
-nobody_waits : (c : In-ok-waiting) → vec_items c.in-ok-waiting.waiting ≡ replicate (length (vec_items c.args.machine.now.rows)) nobody
-nobody_waits c = c.in-ok-waiting.ensures.items-if-clones-equal (λ y e. e) ∙ ap (λ n. replicate n nobody) c.requires
+nobody_waits : (c : In_ok-waiting) → vec_items c.in_ok-waiting.waiting ≡ replicate (length (vec_items c.args.machine.now.rows)) nobody
+nobody_waits c = c.in_ok-waiting.ensures.items_if_clones_equal (λ y e. e) ∙ ap (λ n. replicate n nobody) c.requires
 
-pub overflow-cast-w : goal.overflow-cast-w
-overflow-cast-w c = omega (arith, few (goal.at.overflow-cast-w c).In-ok-waiting)
+pub overflow_cast-w : goal.overflow_cast-w
+overflow_cast-w c = omega (arith, few (goal.at.overflow_cast-w c).In_ok-waiting)
 
 pub settle-requires : goal.settle-requires
-settle-requires c = record { wire = omega (arith, few (goal.at.settle-requires c).In-ok-waiting); fit = c.loop-w.invariant.1 }
+settle-requires c = record { wire = omega (arith, few (goal.at.settle-requires c).In_ok-waiting); fit = c.loop-w.invariant.1 }
 
 pub loop-w-init : goal.loop-w-init
 loop-w-init c =
     let m = c.args.machine.now in
-    let ps = vec_items c.in-ok-places.places in (
+    let ps = vec_items c.in_ok-places.places in (
       refl,
       subst (λ (ws : List Waiting). Fit (vec_items m.types) (vec_items m.rows) (record { tokens = ps; waiting = ws; ready = 0 })) (sym (nobody_waits c))
-          (fresh_fit (vec_items m.types) (vec_items m.rows) ps (omega (arith, few c, ap length c.in-ok-places.ensures.items))),
+          (fresh_fit (vec_items m.types) (vec_items m.rows) ps (omega (arith, few c, ap length c.in_ok-places.ensures.items))),
     )
 
 pub loop-w-preserved : goal.loop-w-preserved
@@ -52,8 +52,8 @@ returns c =
     let es = vec_items c.args.machine.now.types in
     let rows = vec_items c.args.machine.now.rows in
     let ps = c.starts-starts.result.now in
-    let copied : vec_items c.in-ok-places.places ≡ starts es rows = c.in-ok-places.ensures.items ∙ c.starts-starts.ensures in
-    let begun = ap₂ (λ (ts : List Place) (ws : List Waiting). record { tokens = ts; waiting = ws; ready = 0 }) copied (nobody_waits (goal.at.returns c).In-ok-waiting) in
+    let copied : vec_items c.in_ok-places.places ≡ starts es rows = c.in_ok-places.ensures.items ∙ c.starts-starts.ensures in
+    let begun = ap₂ (λ (ts : List Place) (ws : List Waiting). record { tokens = ts; waiting = ws; ready = 0 }) copied (nobody_waits (goal.at.returns c).In_ok-waiting) in
     sym (at_drop_all (λ (qs : List Place). settled_from es rows (books_of c.loop-w.books) c.loop-w.w qs) ps c.loop-w.w c.loop-w-test.false)
     ∙ c.loop-w.invariant.0
     ∙ ap₂ (λ (k : Kept) (qs : List Place). settled_from es rows k 0 qs) begun c.starts-starts.ensures

@@ -19,8 +19,8 @@ loop-w-init c =
     let m = c.args.machine.now in
     let b = c.args.self.now in
     let r = c.args.seat.row.0 in
-    let again = c.index-mut.result.now in
-    let same = ap (λ (h : Waiting). length h.seats) (get_or_read (vec_items b.waiting) r again (omega (arith, c.requires.fit.0)) c.index-mut.ensures.value nobody) in
+    let again = c.index_mut.result.now in
+    let same = ap (λ (h : Waiting). length h.seats) (get_or_read (vec_items b.waiting) r again (omega (arith, c.requires.fit.0)) c.index_mut.ensures.value nobody) in
     (refl, fit_set (vec_items m.types) (vec_items m.rows) (books_of b) r (record { wires = 0; seats = again.seats }) same c.requires.fit, refl)
 
 pub loop-w-preserved : goal.loop-w-preserved
@@ -46,4 +46,4 @@ returns c =
     let ws = take (c.args.seat.arity - 0) c.index.result.now.seats in
     sym (at_drop_all (λ (l : List Wire). stepped_all es rows (books_of c.loop-w.self) (numbers_of l)) ws c.loop-w.w-index c.loop-w-test.false)
     ∙ c.loop-w.invariant.0
-    ∙ passed_by es rows (books_of b) c.args.seat.row.0 c.args.seat.arity c.index.result.now c.index-mut.result.now (omega (arith, c.requires.fit.0)) c.index.ensures c.index-mut.ensures.value
+    ∙ passed_by es rows (books_of b) c.args.seat.row.0 c.args.seat.arity c.index.result.now c.index_mut.result.now (omega (arith, c.requires.fit.0)) c.index.ensures c.index_mut.ensures.value

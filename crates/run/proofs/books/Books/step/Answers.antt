@@ -10,7 +10,7 @@ returns-in-Some c =
     c.settle.ensures
     ∙ stepped_by (vec_items m.types) (vec_items m.rows) (books_of c.args.self.now) c.args.w.0 c.index.result.now (Some c.in-Some.q) c.requires.wire c.index.ensures c.in-Some.ensures
 
-pub returns-in-default : goal.returns-in-default
-returns-in-default c =
+pub returns-in_default : goal.returns-in_default
+returns-in_default c =
     let m = c.args.machine.now in
-    stepped_by (vec_items m.types) (vec_items m.rows) (books_of c.args.self.now) c.args.w.0 c.index.result.now None c.requires.wire c.index.ensures c.in-default.ensures
+    stepped_by (vec_items m.types) (vec_items m.rows) (books_of c.args.self.now) c.args.w.0 c.index.result.now None c.requires.wire c.index.ensures c.in_default.ensures

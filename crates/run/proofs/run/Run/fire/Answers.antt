@@ -1,5 +1,5 @@
 -- A seat is empty, the target refuses the gate, or all tokens at its seats pass.
-use Rattle.std.proofs.Common.{vec_items, sym, refl, ap, ◌∙◌, arith}
+use Rattle.std.proofs.Common.{vec_items, sym, refl, ap, arith}
 use Rattle.std.proofs.lemmas.Result.{err_from_is_err_and}
 use Rattle.derivation.proofs.AcceptedLaws.{accepted_from_valid}
 use Rattle.run.specs.Books.{books_of}
@@ -17,7 +17,7 @@ index-requires g c =
 
 pub returns-then-waiting-seat : goal.returns-then-waiting-seat
 returns-then-waiting-seat g c =
-    let T = g.row.T-Target in
+    let T = g.T.Target in
     let run = c.args.self.now in
     let es = vec_items run.machine.types in
     let rows = vec_items run.machine.rows in
@@ -28,18 +28,18 @@ returns-then-waiting-seat g c =
       derivation = refl;
     }
 
-pub returns-in-err-apply : goal.returns-in-err-apply
-returns-in-err-apply g c =
-    let T = g.row.T-Target in
+pub returns-in_err-apply : goal.returns-in_err-apply
+returns-in_err-apply g c =
+    let T = g.T.Target in
     let run = c.args.self.now in
     let es = vec_items run.machine.types in
     let rows = vec_items run.machine.rows in
     let a = accepted_from_valid es rows run.machine.accepted in
-    let p = err_from_is_err_and c.from-residual.result c.from-residual.ensures.1 in
+    let p = err_from_is_err_and c.from_residual.result c.from_residual.ensures.1 in
     rw (p.1, p.2) (record {
       answer = refuse-answer es rows a (books_of run.books) run.moves run.reached run.kept c.args.w.0 c.requires.wire c.args.seat c.requires.seat c.index.result.now c.index.ensures
-          T.taken T.applied (T.view c.args.target.now) c.if-waiting-seat.false c.in-Some.gate (sym c.in-Some.ensures) c.in-err-apply.field-0.0
-          c.in-err-apply.ensures.obeys (T.view c.apply.new.self) (ap T.view c.in-err-apply.ensures.kept);
+          T.taken T.applied (T.view c.args.target.now) c.if-waiting-seat.false c.in-Some.gate (sym c.in-Some.ensures) c.in_err-apply.field-0.0
+          c.in_err-apply.ensures.obeys (T.view c.apply.new.self) (ap T.view c.in_err-apply.ensures.kept);
       derivation = refl;
     })
 
@@ -59,8 +59,8 @@ pass-requires g c =
     }
 
 -- the counter does not run over
-pub overflow-add-self : goal.overflow-add-self
-overflow-add-self g c =
+pub overflow_add-self : goal.overflow_add-self
+overflow_add-self g c =
     let run = c.args.self.now in
     let es = vec_items run.machine.types in
     let rows = vec_items run.machine.rows in
@@ -69,24 +69,23 @@ overflow-add-self g c =
     c.if-waiting-seat.false c.in-Some.gate (sym c.in-Some.ensures) (books_of c.pass.new.self) c.pass.ensures in
     omega arith
 
-pub invariant-of-self : goal.invariant-of-self
-invariant-of-self g c =
+pub invariant_of-self : goal.invariant_of-self
+invariant_of-self g c =
     let run = c.args.self.now in
     let es = vec_items run.machine.types in
     let rows = vec_items run.machine.rows in
     let a = accepted_from_valid es rows run.machine.accepted in
     let b = books_of run.books in
-    let x = c.index.result.now in (
-      run.started,
-      (
-        fire-under es rows a b run.moves run.reached run.kept c.args.w.0 c.requires.wire c.args.seat c.requires.seat x c.index.ensures c.if-waiting-seat.false c.in-Some.gate (sym c.in-Some.ensures) (books_of c.pass.new.self) c.pass.ensures,
-        (fire-kept es rows a b run.moves run.reached run.kept c.args.w.0 c.requires.wire c.args.seat c.requires.seat x c.index.ensures c.if-waiting-seat.false c.in-Some.gate (sym c.in-Some.ensures) (books_of c.pass.new.self) c.pass.ensures, tt),
-      ),
-    )
+    let x = c.index.result.now in
+    record {
+      started = run.started;
+      reached = fire-under es rows a b run.moves run.reached run.kept c.args.w.0 c.requires.wire c.args.seat c.requires.seat x c.index.ensures c.if-waiting-seat.false c.in-Some.gate (sym c.in-Some.ensures) (books_of c.pass.new.self) c.pass.ensures;
+      kept = fire-kept es rows a b run.moves run.reached run.kept c.args.w.0 c.requires.wire c.args.seat c.requires.seat x c.index.ensures c.if-waiting-seat.false c.in-Some.gate (sym c.in-Some.ensures) (books_of c.pass.new.self) c.pass.ensures;
+    }
 
 pub returns : goal.returns
 returns g c =
-    let T = g.row.T-Target in
+    let T = g.T.Target in
     let run = c.args.self.now in
     let es = vec_items run.machine.types in
     let rows = vec_items run.machine.rows in
@@ -94,6 +93,6 @@ returns g c =
     record {
       answer = fire-answer es rows a (books_of run.books) run.moves run.reached run.kept c.args.w.0 c.requires.wire c.args.seat c.requires.seat c.index.result.now c.index.ensures
           T.taken T.applied (T.view c.args.target.now) c.if-waiting-seat.false c.in-Some.gate (sym c.in-Some.ensures) (books_of c.pass.new.self) c.pass.ensures
-          c.in-ok-apply.ensures.obeys.0 (T.view c.apply.new.self) c.in-ok-apply.ensures.obeys.1;
+          c.in_ok-apply.ensures.obeys.0 (T.view c.apply.new.self) c.in_ok-apply.ensures.obeys.1;
       derivation = refl;
     }

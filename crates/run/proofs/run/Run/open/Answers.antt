@@ -7,15 +7,15 @@ use Rattle.run.proofs.Guaranteed.{guarantee}
 use Rattle.run.proofs.Opened.{as_opened, few-starts, few-wires, not_refused, sets-known, used-known}
 use Rattle.run.proofs.run.Run.open.Goals as goal
 
-pub start-sets-given-requires : goal.start-sets-given-requires
-start-sets-given-requires g c =
+pub start_sets-given-requires : goal.start_sets-given-requires
+start_sets-given-requires g c =
     let h = c.args.holder.now in
-    let run = c.in-ok-run.run' in
-    let (types, of-rows, tokens, moves) = c.in-ok-run.ensures in
-    few-starts (vec_items h.types) (vec_items h.rows) (vec_items run.starts) c.as-slice.result.now c.as-slice.ensures.value (run.started ∙ ap₂ how_started types of-rows) h.accepted
+    let run = c.in_ok-run.run' in
+    let (types, of-rows, tokens, moves) = c.in_ok-run.ensures in
+    few-starts (vec_items h.types) (vec_items h.rows) (vec_items run.starts) c.as_slice.result.now c.as_slice.ensures.value (run.started ∙ ap₂ how_started types of-rows) h.accepted
 
-pub first-wires-requires : goal.first-wires-requires
-first-wires-requires g c =
+pub first_wires-requires : goal.first_wires-requires
+first_wires-requires g c =
     let h = c.args.holder.now in
     few-wires (vec_items h.types) (vec_items h.rows) h.accepted c.wires.result c.wires.ensures
 
@@ -24,19 +24,19 @@ returns g c =
     let h = c.args.holder.now in
     let es = vec_items h.types in
     let rows = vec_items h.rows in
-    let T = g.row.T-Target in
-    let run = c.in-ok-run.run' in
+    let T = g.T.Target in
+    let run = c.in_ok-run.run' in
     let before = c.args.target.now in
-    let asked = c.open-fault.new.target in
+    let asked = c.open_fault.new.target in
     let after = c.begin.new.self in
-    let same = c.open-fault.ensures.same in
-    let used = c.first-wires.result in
-    let sets = c.start-sets-given.result in
-    let of-used = used-known es rows used c.wires.result c.first-wires.ensures c.wires.ensures in
-    let (types, of-rows, tokens, moves) = c.in-ok-run.ensures in
-    let (of-given, of_ones) = sets-known es rows (vec_items run.starts) c.as-slice.result.now c.as-slice.ensures.value (run.started ∙ ap₂ how_started types of-rows) sets c.start-sets-given.ensures in
-    let (begins, begun) = c.in-ok-begin.ensures.obeys in
-    let fine = not_refused T.view T.taken T.begun es rows before asked after same used sets.0 sets.1 of-used of-given of_ones c.in-default.ensures.value begins in
+    let same = c.open_fault.ensures.same in
+    let used = c.first_wires.result in
+    let sets = c.start_sets-given.result in
+    let of-used = used-known es rows used c.wires.result c.first_wires.ensures c.wires.ensures in
+    let (types, of-rows, tokens, moves) = c.in_ok-run.ensures in
+    let (of-given, of_ones) = sets-known es rows (vec_items run.starts) c.as_slice.result.now c.as_slice.ensures.value (run.started ∙ ap₂ how_started types of-rows) sets c.start_sets-given.ensures in
+    let (begins, begun) = c.in_ok-begin.ensures.obeys in
+    let fine = not_refused T.view T.taken T.begun es rows before asked after same used sets.0 sets.1 of-used of-given of_ones c.in_default.ensures.value begins in
     record {
       answer = (fine, as_opened T.view T.taken T.begun es rows before asked after same used sets.0 sets.1 of-used of-given of_ones (vec_items run.books.places) run.moves tokens moves begun);
       derivation = (types, of-rows);

@@ -10,14 +10,18 @@ use Rattle.run.proofs.run.Run.over.Goals as goal
 pub new-requires-2 : goal.new-requires-2
 new-requires-2 c = ap (λ (l : List Row). length l) (c.rows.ensures ∙ sym c.in-Ok.ensures.copied.1)
 
-pub invariant-of-result : goal.invariant-of-result
-invariant-of-result c =
+pub invariant_of-result : goal.invariant_of-result
+invariant_of-result c =
     let m = c.in-Ok.machine in
     let es = vec_items m.types in
     let rows = vec_items m.rows in
     let b = books_of c.in-Ok-new.books in
     let (types, same_rows) = c.in-Ok.ensures.copied in
-    (c.in-Ok-starts.ensures ∙ sym (ap₂ how_started types same_rows), (fresh-reached es rows m.accepted b c.in-Ok-new.ensures, (fresh-right es rows m.accepted b c.in-Ok-new.ensures, tt)))
+    record {
+      started = c.in-Ok-starts.ensures ∙ sym (ap₂ how_started types same_rows);
+      reached = fresh-reached es rows m.accepted b c.in-Ok-new.ensures;
+      kept = fresh-right es rows m.accepted b c.in-Ok-new.ensures;
+    }
 
 pub returns : goal.returns
 returns c =

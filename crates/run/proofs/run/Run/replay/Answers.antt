@@ -11,7 +11,7 @@ use Rattle.run.proofs.run.Run.replay.Goals.{in-Move, in-Sweep}
 
 pub loop-call-preserved : goal.loop-call-preserved
 loop-call-preserved g c =
-    let T = g.row.T-Target in
+    let T = g.T.Target in
     let run = c.loop-call.self in
     let es = vec_items run.machine.types in
     let rows = vec_items run.machine.rows in
@@ -24,8 +24,8 @@ loop-call-preserved g c =
     let (same, so_far) = c.loop-call.invariant in
     let step : (c.match-call.self.machine ≡ run.machine) × (t ≡ after_call T.taken T.applied es rows s (get_or calls i first)) = elim c.match-call.branch [
       | in-Move w ↦ (
-        ap (λ (r : Run). r.machine) w.self-is ∙ w.move-wire.ensures.derivation,
-        ap₂ stage w.self-is w.target-is ∙ after-moved T.taken T.applied es rows s _ w.in-Move.w.0 _ w.move-wire.ensures.answer ∙ sym (ap (after_call T.taken T.applied es rows s) w.in-Move.is),
+        ap (λ (r : Run). r.machine) w.self-is ∙ w.move_wire.ensures.derivation,
+        ap₂ stage w.self-is w.target-is ∙ after-moved T.taken T.applied es rows s _ w.in-Move.w.0 _ w.move_wire.ensures.answer ∙ sym (ap (after_call T.taken T.applied es rows s) w.in-Move.is),
       )
       | in-Sweep w ↦ (
         ap (λ (r : Run). r.machine) w.self-is ∙ w.sweep.ensures.derivation,
@@ -39,7 +39,7 @@ loop-call-preserved g c =
 
 pub returns : goal.returns
 returns g c =
-    let T = g.row.T-Target in
+    let T = g.T.Target in
     let m = c.loop-call.self.machine in
     let (same, so_far) = c.loop-call.invariant in
     record {

@@ -10,45 +10,45 @@ use Rattle.run.proofs.run.Run.sweep.Goals.{then-loop-made-test+else-self-ne0, el
 
 pub loop-made-init : goal.loop-made-init
 loop-made-init g c =
-    let T = g.row.T-Target in
+    let T = g.T.Target in
     let m = c.args.self.now.machine in
     (omega arith, refl, sweep-begun T.taken T.applied (vec_items m.types) (vec_items m.rows) c.args.budget _)
 
 pub loop-made-preserved : goal.loop-made-preserved
 loop-made-preserved g c =
-    let T = g.row.T-Target in
+    let T = g.T.Target in
     let run = c.loop-made.self in
     let es = vec_items run.machine.types in
     let rows = vec_items run.machine.rows in
     let (few, same, so_far) = c.loop-made.invariant in
-    let answer = c.in-ok-move-wire.ensures.answer in
-    let kept = c.in-ok-move-wire.ensures.derivation in
-    let after = c.move-wire.new.self in
+    let answer = c.in_ok-move_wire.ensures.answer in
+    let kept = c.in_ok-move_wire.ensures.derivation in
+    let after = c.move_wire.new.self in
     let some = ready-first es rows (books_of run.books) run.kept c.if-self-ne0.true in
     let further = sweep-further T.taken T.applied es rows c.args.budget c.loop-made.made _ _ some c.loop-made-test.true _ (made_as _ _ _ _ answer) in
-    let rest = λ (m : Machine). behind (c.loop-made.made + 1) (sweep_of T.taken T.applied (vec_items m.types) (vec_items m.rows) (c.args.budget - (c.loop-made.made + 1)) (record { tokens = vec_items after.books.places; moves = after.moves; target = T.view c.move-wire.new.target })) in
+    let rest = λ (m : Machine). behind (c.loop-made.made + 1) (sweep_of T.taken T.applied (vec_items m.types) (vec_items m.rows) (c.args.budget - (c.loop-made.made + 1)) (record { tokens = vec_items after.books.places; moves = after.moves; target = T.view c.move_wire.new.target })) in
     (omega arith, kept ∙ same, so_far ∙ further ∙ sym (ap rest kept))
 
-pub returns-in-err-move-wire : goal.returns-in-err-move-wire
-returns-in-err-move-wire g c =
-    let T = g.row.T-Target in
+pub returns-in_err-move_wire : goal.returns-in_err-move_wire
+returns-in_err-move_wire g c =
+    let T = g.T.Target in
     let run = c.loop-made.self in
     let es = vec_items run.machine.types in
     let rows = vec_items run.machine.rows in
     let (few, same, so_far) = c.loop-made.invariant in
-    let p = err_from_is_err_and c.from-residual.result c.from-residual.ensures.1 in
+    let p = err_from_is_err_and c.from_residual.result c.from_residual.ensures.1 in
     let some = ready-first es rows (books_of run.books) run.kept c.if-self-ne0.true in
-    let (refused, as_before) = refused_as _ _ _ _ c.in-err-move-wire.ensures.answer in
+    let (refused, as_before) = refused_as _ _ _ _ c.in_err-move_wire.ensures.answer in
     let all = so_far ∙ sweep-refused T.taken T.applied es rows c.args.budget c.loop-made.made _ _ some c.loop-made-test.true _ refused in
     rw (p.1, p.2) (record {
       answer = sym (ap (λ (r : Swept T.State). r.answer) all);
       after = as_before ∙ sym (ap (λ (r : Swept T.State). r.after) all);
-      derivation = c.in-err-move-wire.ensures.derivation ∙ same;
+      derivation = c.in_err-move_wire.ensures.derivation ∙ same;
     })
 
 pub returns : goal.returns
 returns g c =
-    let T = g.row.T-Target in
+    let T = g.T.Target in
     let run = c.loop-made.self in
     let es = vec_items run.machine.types in
     let rows = vec_items run.machine.rows in
@@ -59,7 +59,7 @@ returns g c =
     ] in
     let all = so_far ∙ sweep-over T.taken T.applied es rows c.args.budget c.loop-made.made _ none in
     record {
-      answer = ap (λ (b : Bool). Ok (c.loop-made.made, b)) c.is-home.ensures ∙ sym (ap (λ (r : Swept T.State). r.answer) all);
+      answer = ap (λ (b : Bool). Ok (c.loop-made.made, b)) c.is_home.ensures ∙ sym (ap (λ (r : Swept T.State). r.answer) all);
       after = sym (ap (λ (r : Swept T.State). r.after) all);
       derivation = same;
     }
