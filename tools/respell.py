@@ -18,8 +18,8 @@ agrees-beq>agrees_beq all-below-more>all_below-more all-below>all_below_lem all-
 all-in-more>all_in-more all-in-same>all_in-same all-stand-to>all-stand_to all-touch>all_touch allCodes>all_codes allHome>all_home allIn>all_in
 allMates>all_mates allOne>all_one allPossible>all_possible allStand>all_stand and-digit>and_digit and-then-ok>and_then_ok and-true>and_true
 apart-alike>apart_alike apart-front>apart_front apart-last>apart_last apart-symmetric>apart_symmetric apartFrom>apart_from apart_from>apart_from_lem
-appliedOf>applied_of appliedView>applied_view apply-argument>apply_argument applyFault>apply_fault arityOf>arity_of as-opened>as_opened
-as-steps>as_steps at-end>at_end at-ends>at_ends_lem at-seat>at_seat at-start>at_start atEnds>at_ends atom-in-type>atom_in_type
+appliedOf>applied_of appliedView>applied_view apply-argument>apply_argument applyFault>apply_fault arity-few>arity_few arityOf>arity_of
+as-opened>as_opened as-steps>as_steps at-end>at_end at-ends>wires_at_ends at-seat>at_seat at-start>at_start atEnds>at_ends atom-in-type>atom_in_type
 atom-in-variable>atom_in_variable atom-small>atom_small atoms-pos>atoms_pos atomsOf>atoms_of begin-by>begin_by beginFault>begin_fault
 begunView>begun_view behind-none>behind_none bell-counts>bell_counts bell-layers>bell_layers bell-refused>bell_refused bell-swept>bell_swept
 bell-twice>bell_twice bell-unfit>bell_unfit bell-waits>bell_waits bell-walked>bell_walked below-from>below_from_lem below-premise>below_premise
@@ -40,8 +40,8 @@ cutting-none>cutting_none cx-copies>cx_copies cx-counts>cx_counts cx-swept>cx_sw
 derivationText>derivation_text distinct-below>distinct_below distinct-to>distinct_to downFrom>down_from downwardOf>downward_of
 empty-input>empty_input empty-refused>empty_refused enabled-to>enabled_to encode-from-pieces>encode-from_pieces encode-pieces>encode_pieces
 encoded-ok>encoded_ok end-laws>end_laws end-lines-more>end_lines-more end-lines-push>end_lines-push end-lines-take>end_lines-take endLines>end_lines
-endWires>end_wires ends-are>ends_are endsOf>ends_of entered-none>entered_none entered-one>entered_one entry-good>entry_good entry-high>entry_high
-entry-repeats>entry_repeats entryFault>entry_fault env-low-below>env-low_below env-past>env_past env-two>env_two envAt>env_at
+endWires>end_wires ends-are>ends_are ends-known>ends_known endsOf>ends_of entered-none>entered_none entered-one>entered_one entry-good>entry_good
+entry-high>entry_high entry-repeats>entry_repeats entryFault>entry_fault env-low-below>env-low_below env-past>env_past env-two>env_two envAt>env_at
 environment-link>environment_link environmentOf>environment_of envs-so-far>envs_so_far eqb-by>eqb_by eqb-first>eqb_first every-below>every_below
 fact-at>fact_at factsAt>facts_at fault-none>fault_none few-rows>few_rows few-types>few_types find-number>find_number fired-none>fired_none
 firedAt>fired_at fires-in>fires_in first-none>first_none firstFault>first_fault firstWires>first_wires fit-set>fit_set fits-past>fits_past
@@ -58,48 +58,49 @@ has-shifted-low>has_shifted-low has-shifted>has_shifted header-from-none>header-
 held-le>held_le heldPlace>held_place howStarted>how_started hx-counted>hx_counted hx-counts>hx_counts hx-swept>hx_swept is-there>is_there
 isBit>is_bit isEnd>is_end isGate>is_gate isGiven>is_given isLate>is_late isNode>is_node isOne>is_one isPlace>is_place isPower>is_power
 isSeat>is_seat isStart>is_start joined-pass>joined_pass joined-room>joined_room joined-take-le>joined_take_le joined-take-more>joined_take_more
-joinedFacts>joined_facts joinedSize>joined_size keep-either>keep_either keep-joined>keep_joined kind-length>kind_length kind-same>kind_same
-kindCode>kind_code known-x>known_x known-y>known_y knownFault>known_fault knows-none>knows_none knows-step>knows_step last-below>last_below
-last-falls>last_falls last-first>last_first last-other>last_other late-facts>late_facts late-no-start>late_no_start late-seat>late_seat
-latesAt>lates_at layerNumber>layer_number layerOf>layer_of layered-commutes>layered_commutes layered-shallow>layered_shallow layers-each>layers_each
-layersOf>layers_of leader-first>leader_first leader-mate>leader_mate leader-only>leader_only leader-seat>leader_seat leads-argument>leads_argument
-leads-first>leads_first leads-on>leads_on leads-result>leads_result leads-second>leads_second leave-plain>leave_plain led-apart>led_apart
-led-few>led_few led-from>led_from led-more>led_more led-to>led_to left-low>left_low left-part>left_part_lem leftBy>left_by leftPart>left_part
-length-joined-more>length_joined-more length-lates>length_lates length-places-in>length-places_in length-sizes>length_sizes less-digit>less_digit
-link-down>link_down link-passes>link_passes listView>list_view listed-false>listed_false listed-occurs>listed_occurs listed-true>listed_true
-listed-two>listed_two lists-all>lists_all lists-distinct>lists_distinct lists-each>lists_each log-of>log_of lower-from-none>lower-from_none
-lower-place>lower_place lowest-first>lowest_first lowest-none>lowest_none lowestFrom>lowest_from lowestMissing>lowest_missing
-map-commutes>map_commutes map-joined>map_joined mapped-none>mapped_none mappedApplied>mapped_applied mappedBegun>mapped_begun mappedView>mapped_view
-mask-length>mask_length mask-push>mask_push mask-skip>mask_skip mask-with>mask_with mate-fires>mate_fires mate-together>mate_together
-mates-le>mates_le mates-no-end>mates_no-end mates-none>mates_none mates-self>mates_self mates-sym>mates_sym mates-to>mates_to
-mates-trans>mates_trans matesOf>mates_of meets-each>meets_each meets-least>meets_least meets-most>meets_most meets-none>meets_none
-met-by-records>met_by_records metOf>met_of missing-end>missing_end missing-from>missing_from missing-here>missing_here missing-next>missing_next
-missing-to>missing_to moreMade>more_made most-once>most_once movable-can>movable_can move-alone>move_alone move-facts>move_facts
-move-found>move_found move-made>move_made move-moves>move_moves move-none>move_none move-of>move_of_lem move-refused>move_refused_lem
-moveRefused>move_refused moved-past>moved_past moved-top>moved_top movedFrom>moved_from moves-are-steps>moves_are-steps narrow-none>narrow_none
-negative-in-type>negative_in-type negative-in-variable>negative_in-variable negativeIn>negative_in new-envs>new_envs new-moves>new_moves
-new-swept>new_swept new-wires>new_wires newLayers>new_layers newRegister>new_register next-advance>next_advance next-no-end>next_no-end
-no-apply-fault>no_apply_fault no-fault>no_fault no-seat>no_seat noEntry>no_entry noFacts>no_facts noPlace>no_place noRecord>no_record
-nobody-waits>nobody_waits node-no-qubit>node_no-qubit none-behind>none_behind none-by-wire>none_by_wire none-from-framed>none_from_framed
-none-from-header>none_from_header none-in-from>none_in_from none-in-to>none_in_to none-in-two>none_in_two none-listed>none_listed
-none-some>none_some none-to>none_to noneCommon>none_common noneIn>none_in not-refused>not_refused not-shared>not_shared not-taken-end>not_taken_end
-not-taken-here>not_taken_here notTaken>not_taken nowhere-off>nowhere_off number-less>number_less numbers-last>numbers_last numbersOf>numbers_of
-occ-ends>occ_ends occ-in>occ_in occ-late-own>occ_late-own occ-late-row>occ_late-row occ-lates>occ_lates occ-twice>occ_twice
-occurrences-high>occurrences_high ok-err>ok_err onWire>on_wire once-free>once_free one-true>one_true oneMore>one_more one_more>one_more_lem
-onesSet>ones_set only-shifted>only_shifted openFault>open_fault openRefused>open_refused opened-going>opened_going or-digit>or_digit
-or-else-both>or_else_both or-false>or_false order-behind>order_behind order-swaps>order_swaps other-next>other_next own-channels>own_channels
-owner-has>owner_has ownerOf>owner_of pair-abstraction>pair_abstraction pair-body>pair_body parse-from-pieces>parse-from_pieces
-parsed-faulty>parsed_faulty parsed-fine>parsed_fine parsed-refused>parsed_refused part-differs>part_differs part-has>part_has parts-fit>parts_fit
-passed-by>passed_by passed-either>passed_either passed-few>passed_few passed-fired>passed_fired pieces-from-parse>pieces_from_parse
-pieces-from-rows>pieces_from_rows pieces-valid>pieces_valid place-atom>place_atom place-discrete>place_discrete place-self>place_self
-placeAt>place_at place_at>place_at_lem places-none>places_none placesIn>places_in placesTo>places_to placing-other>placing_other played-ok>played_ok
-port-laws>port_laws positives-le>positives_le possibleFrom>possible_from power-gives>power_gives premise-free>premise_free
-premises-differ>premises_differ premisesAt>premises_at prepares-each>prepares_each prepend-ok>prepend_ok prev-advance>prev_advance
-prev-from>prev_from prev-negative>prev_negative prev-positive>prev_positive put-from-part>put-from_part put-none>put_none put-split>put_split
-reachedBy>reached_by read-complete>read_complete read-exact>read_exact read-sound>read_sound ready-is>ready_is ready-none>ready_none
-recordBytes>record_bytes recordFault>record_fault recordOf>record_of refusalLine>refusal_line refusalOf>refusal_of refused-so>refused_so
-renames-down>renames_down renames-up>renames_up result-prev>result_prev resultText>result_text reversed-channel>reversed_channel
-reversed-faultless>reversed_faultless reversed-filled>reversed_filled right-as>right_as right-low>right_low right-part>right_part_lem
+joinedFacts>joined_facts joinedSize>joined_size keep-either>keep_either keep-joined>keep_joined keeps-left>keeps_left keeps-right>keeps_right
+kind-length>kind_length kind-same>kind_same kindCode>kind_code known-x>known_x known-y>known_y knownFault>known_fault knows-none>knows_none
+knows-step>knows_step last-below>last_below last-falls>last_falls last-first>last_first last-other>last_other late-facts>late_facts
+late-no-start>late_no_start late-seat>late_seat latesAt>lates_at layerNumber>layer_number layerOf>layer_of layered-commutes>layered_commutes
+layered-shallow>layered_shallow layers-each>layers_each layersOf>layers_of leader-first>leader_first leader-mate>leader_mate leader-only>leader_only
+leader-seat>leader_seat leads-argument>leads_argument leads-first>leads_first leads-on>leads_on leads-result>leads_result leads-second>leads_second
+leave-plain>leave_plain led-apart>led_apart led-few>led_few led-from>led_from led-more>led_more led-to>led_to left-known>left_known
+left-low>left_low left-part>left_part left-tree>left_tree leftBy>left_by leftPart>left_part length-joined-more>length_joined-more
+length-lates>length_lates length-places-in>length-places_in length-sizes>length_sizes less-digit>less_digit link-down>link_down
+link-passes>link_passes listView>list_view listed-false>listed_false listed-occurs>listed_occurs listed-true>listed_true listed-two>listed_two
+lists-all>lists_all lists-distinct>lists_distinct lists-each>lists_each log-of>log_of lower-from-none>lower-from_none lower-place>lower_place
+lowest-first>lowest_first lowest-none>lowest_none lowestFrom>lowest_from lowestMissing>lowest_missing map-commutes>map_commutes
+map-joined>map_joined mapped-none>mapped_none mappedApplied>mapped_applied mappedBegun>mapped_begun mappedView>mapped_view mask-length>mask_length
+mask-push>mask_push mask-skip>mask_skip mask-with>mask_with mate-fires>mate_fires mate-together>mate_together mates-le>mates_le
+mates-no-end>mates_no-end mates-none>mates_none mates-self>mates_self mates-sym>mates_sym mates-to>mates_to mates-trans>mates_trans matesOf>mates_of
+meets-each>meets_each meets-least>meets_least meets-most>meets_most meets-none>meets_none met-by-records>met_by_records metOf>met_of
+missing-end>missing_end missing-from>missing_from missing-here>missing_here missing-next>missing_next missing-to>missing_to moreMade>more_made
+most-once>most_once movable-can>movable_can move-alone>move_alone move-facts>move_facts move-found>move_found move-made>move_made
+move-moves>move_moves move-none>move_none move-of>move_of_lem move-refused>move_refused_lem moveRefused>move_refused moved-past>moved_past
+moved-top>moved_top movedFrom>moved_from moves-are-steps>moves_are-steps narrow-none>narrow_none negative-in-type>negative_in-type
+negative-in-variable>negative_in-variable negativeIn>negative_in new-envs>new_envs new-moves>new_moves new-swept>new_swept new-wires>new_wires
+newLayers>new_layers newRegister>new_register next-advance>next_advance next-no-end>next_no-end no-apply-fault>no_apply_fault no-fault>no_fault
+no-seat>no_seat noEntry>no_entry noFacts>no_facts noPlace>no_place noRecord>no_record nobody-waits>nobody_waits node-no-qubit>node_no-qubit
+none-behind>none_behind none-by-wire>none_by_wire none-from-framed>none_from_framed none-from-header>none_from_header none-in-from>none_in_from
+none-in-to>none_in_to none-in-two>none_in_two none-listed>none_listed none-some>none_some none-to>none_to noneCommon>none_common noneIn>none_in
+not-refused>not_refused not-shared>not_shared not-taken-end>not_taken_end not-taken-here>not_taken_here notTaken>not_taken nowhere-off>nowhere_off
+number-less>number_less numbers-last>numbers_last numbersOf>numbers_of occ-ends>occ_ends occ-in>occ_in occ-late-own>occ_late-own
+occ-late-row>occ_late-row occ-lates>occ_lates occ-twice>occ_twice occurrences-high>occurrences_high ok-err>ok_err onWire>on_wire once-free>once_free
+one-true>one_true oneMore>one_more one_more>one_more_lem onesSet>ones_set only-shifted>only_shifted openFault>open_fault openRefused>open_refused
+opened-going>opened_going or-digit>or_digit or-else-both>or_else_both or-false>or_false order-behind>order_behind order-swaps>order_swaps
+other-next>other_next own-channels>own_channels own-rows>own_rows own-types>own_types owner-has>owner_has ownerOf>owner_of
+pair-abstraction>pair_abstraction pair-body>pair_body parse-from-pieces>parse-from_pieces parsed-faulty>parsed_faulty parsed-fine>parsed_fine
+parsed-refused>parsed_refused part-differs>part_differs part-has>part_has parts-fit>parts_fit passed-by>passed_by passed-either>passed_either
+passed-few>passed_few passed-fired>passed_fired pieces-from-parse>pieces_from_parse pieces-from-rows>pieces_from_rows pieces-valid>pieces_valid
+place-atom>place_atom place-discrete>place_discrete place-self>place_self placeAt>place_at place_at>place_at_lem places-none>places_none
+placesIn>places_in placesTo>places_to placing-other>placing_other played-ok>played_ok port-laws>port_laws positives-le>positives_le
+possibleFrom>possible_from power-gives>power_gives premise-free>premise_free premises-differ>premises_differ premisesAt>premises_at
+prepares-each>prepares_each prepend-ok>prepend_ok prev-advance>prev_advance prev-from>prev_from prev-negative>prev_negative
+prev-positive>prev_positive put-from-part>put-from_part put-none>put_none put-split>put_split reachedBy>reached_by read-complete>read_complete
+read-exact>read_exact read-sound>read_sound ready-is>ready_is ready-none>ready_none recordBytes>record_bytes recordFault>record_fault
+recordOf>record_of refusalLine>refusal_line refusalOf>refusal_of refused-so>refused_so renames-down>renames_down renames-up>renames_up
+result-prev>result_prev resultText>result_text reversed-channel>reversed_channel reversed-faultless>reversed_faultless
+reversed-filled>reversed_filled right-as>right_as right-known>right_known right-low>right_low right-part>right_part right-tree>right_tree
 rightPart>right_part roomOf>room_of row-fact-at>row_fact-at row-fact>row_fact row-shape>row_shape row-unknown>row_unknown row-wires-le>row-wires_le
 rowBytes>row_bytes rowFault>row_fault rowLength>row_length rows-exact>rows_exact rows-so-far>rows_so_far rowsFault>rows_fault rule-past>rule_past
 rule-says>rule_says ruleAt>rule_at ruleBytes>rule_bytes ruleFault>rule_fault ruleOf>rule_of ruleOr>rule_or run-apart>run_apart run-fact>run_fact
@@ -117,26 +118,27 @@ shares-by>shares_by signed-in>signed_in signed-out>signed_out signedAt>signed_at
 size-joined>size_joined size-members>size_members sizes-more>sizes_more some-rows>some_rows some-together>some_together
 sound-accepted>sound_accepted sound-to>sound_to sounds-from>sounds_from sounds-since>sounds_since sounds-to>sounds_to split-flips>split_flips
 spot-wire>spot_wire stand-none>stand_none stands-entered>stands_entered stands-none>stands_none standsAt>stands_at standsOn>stands_on
-start-laws>start_laws start-lines-more>start_lines-more start-lines-push>start_lines-push start-lines-take>start_lines-take startBooks>start_books
-startLines>start_lines startWord>start_word starts-are>starts_are startsBy>starts_by startsOf>starts_of state-none>state_none step-as>step_as
-stepped-count>stepped_count stepped-fit>stepped_fit stepped-is>stepped_is stepped-ways>stepped_ways steppedAll>stepped_all
+start-here>start_here start-laws>start_laws start-lines-more>start_lines-more start-lines-push>start_lines-push start-lines-take>start_lines-take
+startBooks>start_books startLines>start_lines startWord>start_word starts-are>starts_are startsBy>starts_by startsOf>starts_of state-none>state_none
+step-as>step_as stepped-count>stepped_count stepped-fit>stepped_fit stepped-is>stepped_is stepped-ways>stepped_ways steppedAll>stepped_all
 straight-channel>straight_channel straight-faultless>straight_faultless straight-filled>straight_filled sum-none>sum_none sumBy-map>sum_by-map
 sumTo-append>sum_to-append sumTo-same>sum_to-same swap-counts>swap_counts swap-swept>swap_swept swap-walked>swap_walked swapped-order>swapped_order
 swaps-same-order>swaps-same_order swaps-symmetric>swaps_symmetric swaps-trans>swaps_trans sweep-ends>sweep_ends sweep-none>sweep_none
 sweep-off>sweep_off sweep-on>sweep_on sweepOf>sweep_of sweptOn>swept_on sweptOut>swept_out table-every>table_every tableFault>table_fault
-takenBy>taken_by takenFrom>taken_from takes-as>takes_as takes-on>takes_on takesAllButH>takes_all_but_h together-seat>together_seat
-told-place>told_place trailing-none>trailing_none trailing-some>trailing_some trailingFault>trailing_fault tree-past>tree_past tree-suc>tree_suc
-tree-zero>tree_zero treeAt>tree_at turnBy>turn_by two-pow-above>two_pow_above type-shape>type_shape type-unknown>type_unknown typeFault>type_fault
-typeKind>type_kind typeLength>type_length typePlace>type_place typed-to>typed_to types-cut>types_cut types-exact>types_exact types-pass>types_pass
-typesFault>types_fault union-none>union_none unless-ok>unless_ok unlike-from>unlike_from unlisted-two>unlisted_two unused-none>unused_none
-unusedFault>unused_fault upper-place>upper_place upwardOf>upward_of usedSet>used_set uses-front>uses_front uses-last>uses_last
-valid-from-accepted>valid-from_accepted value-some>value_some view-push>view_push visited-place>visited_place waits-listed>waits_listed
-walked-other>walked_other weight-alike>weight_alike weight-infers>weight_infers weight-none>weight_none weight-zero>weight_zero where-in>where_in
-where-past>where_past whole-none>whole_none wholeFault>whole_fault width-le>width_le wire-below>wire_below wire-is>wire_is wireAt>wire_at
-wires-channels>wires_channels wires-hit>wires_hit wires-miss>wires_miss wires-none>wires_none wires-past>wires_past wires-read>wires_read
-wiresFault>wires_fault wiresFrom>wires_from wiresOf>wires_of wiresTo>wires_to wiresWhere>wires_where with-to>with_to withFired>with_fired
-within-x>within_x within-y>within_y without-by>without_by without-past>without_past writeAfter>write_after writeAnswer>write_answer
-xor-digit>xor_digit zeroRow>zero_row zeros-shallow>zeros_shallow
+takenBy>taken_by takenFrom>taken_from takes-as>takes_as takes-on>takes_on takesAllButH>takes_all_but_h to-left>to_left to-right>to_right
+together-seat>together_seat told-place>told_place trailing-none>trailing_none trailing-some>trailing_some trailingFault>trailing_fault
+tree-past>tree_past tree-suc>tree_suc tree-zero>tree_zero treeAt>tree_at turnBy>turn_by two-pow-above>two_pow_above type-shape>type_shape
+type-unknown>type_unknown typeFault>type_fault typeKind>type_kind typeLength>type_length typePlace>type_place typed-to>typed_to types-cut>types_cut
+types-exact>types_exact types-pass>types_pass typesFault>types_fault union-none>union_none unless-ok>unless_ok unlike-from>unlike_from
+unlisted-two>unlisted_two unused-none>unused_none unusedFault>unused_fault upper-place>upper_place upwardOf>upward_of usedSet>used_set
+uses-front>uses_front uses-last>uses_last valid-from-accepted>valid-from_accepted value-some>value_some view-push>view_push
+visited-place>visited_place waits-listed>waits_listed walked-other>walked_other weight-alike>weight_alike weight-infers>weight_infers
+weight-none>weight_none weight-zero>weight_zero where-in>where_in where-past>where_past whole-none>whole_none wholeFault>whole_fault
+width-le>width_le wire-below>wire_below wire-is>wire_is wireAt>wire_at wires-channels>wires_channels wires-hit>wires_hit wires-miss>wires_miss
+wires-none>wires_none wires-past>wires_past wires-read>wires_read wiresFault>wires_fault wiresFrom>wires_from wiresOf>wires_of wiresTo>wires_to
+wiresWhere>wires_where with-end>with_end with-here>with_here with-self>with_self with-sym>with_sym with-to>with_to with-trans>with_trans
+withFired>with_fired within-x>within_x within-y>within_y without-by>without_by without-past>without_past writeAfter>write_after
+writeAnswer>write_answer xor-digit>xor_digit zeroRow>zero_row zeros-shallow>zeros_shallow
 """
 
 # words of one file alone, which are types there

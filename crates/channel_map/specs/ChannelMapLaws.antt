@@ -12,7 +12,7 @@ use Rattle.derivation.specs.Sets.{has, only, union, without}
 use Rattle.derivation.proofs.SetLaws.{has-only, has-union, has-without}
 use Rattle.target.specs.Interface.{Commutes, Kept, Obeys, View, apart_from, applied_view, apply_fault, begin_fault, begun_view, seated, sets_fit, shares}
 use Rattle.target.proofs.MaskLaws.{all_below_lem, has_below}
-use Rattle.target.proofs.WireLaws.{arity-few}
+use Rattle.target.proofs.WireLaws.{arity_few}
 use Rattle.channel_map.specs.Channels.{Table, channel_of, channels_of, fitting, mapped_applied, mapped_begun, mapped_view, seatable, wires_of}
 use Rattle.channel_map.specs.ChannelLaws.{channel_apart, channel_low, channel_past, has-wires, sets_fit_lem, two_pow_above, wires_channels, wires_past}
 
@@ -99,7 +99,7 @@ module _ (t : Table) where
   unseated u g ws no-seats = ⊎_elim
       (λ e.
       let p = and_parts (length ws == arity g) (all_in (wires_of t.entries u) ws) e in
-      let few : length ws ≤ 3 = omega (arith, eqb-true (length ws) (arity g) p.0, arity-few g) in
+      let few : length ws ≤ 3 = omega (arith, eqb-true (length ws) (arity g) p.0, arity_few g) in
       absurd (both_ways (seatable ws) no-seats (and_from _ _ (le-leb (length ws) 3 few) (all_below_lem 32 (wires_of t.entries u) ws (wire-low u) p.1))))
       (λ f. f) (cases_Bool (seated (wires_of t.entries u) g ws))
 

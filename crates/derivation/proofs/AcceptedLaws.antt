@@ -176,15 +176,15 @@ module _ (es : List TypeEntry) (rows : List Row) where
   typed_to table k h known (Gate g) p b t =
       let n = parts es table Arrow (type_at rows k) (power (arity g)) (power (arity g)) h t in
       and_from _ _
-      (node-tree es table Arrow _ _ _ h n.left-known n.left-known (t ∙ ap (λ a. arrow a a) (sym n.left-tree)))
-      (power-tree es table (arity g) _ (gate-some g) n.left-known n.left-tree)
+      (node-tree es table Arrow _ _ _ h n.left_known n.left_known (t ∙ ap (λ a. arrow a a) (sym n.left_tree)))
+      (power-tree es table (arity g) _ (gate-some g) n.left_known n.left_tree)
   typed_to table k h known (Lambda q x) p b t =
       node-tree es table Arrow _ _ _ h (known x.0 (b 0 (omega arith))) (known q.0 (p 0 (omega arith))) t
   typed_to table k h known (PairLambda q x y) p b t =
       let n = parts es table Arrow (type_at rows k) _ _ h t in
       and_from _ _
-      (node-tree es table Arrow _ _ _ h n.left-known (known q.0 (p 0 (omega arith))) (t ∙ ap (λ a. arrow a (tree_at es rows q.0)) (sym n.left-tree)))
-      (node-tree es table PairKind _ _ _ n.left-known (known x.0 (b 0 (omega arith))) (known y.0 (b 1 (omega arith))) n.left-tree)
+      (node-tree es table Arrow _ _ _ h n.left_known (known q.0 (p 0 (omega arith))) (t ∙ ap (λ a. arrow a (tree_at es rows q.0)) (sym n.left_tree)))
+      (node-tree es table PairKind _ _ _ n.left_known (known x.0 (b 0 (omega arith))) (known y.0 (b 1 (omega arith))) n.left_tree)
   typed_to table k h known (Apply f a) p b t =
       node-tree es table Arrow _ _ _ (known f.0 (p 0 (omega arith))) (known a.0 (p 1 (omega arith))) h t
   typed_to table k h known (Pair l r) p b t =

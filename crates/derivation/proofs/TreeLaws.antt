@@ -235,10 +235,10 @@ module _ (es : List TypeEntry) (low : Lower es) where
 -- entry t is a node of this kind, whose parts have these trees
 pub record Parts (es : List TypeEntry) (kind : TypeKind) (t : ℕ) (a c : Tree) : Type 0 where
   pub test : is_node es kind t (left_part es t) (right_part es t) ≡ true
-  pub left-known : left_part es t ≤ length es
-  pub right-known : right_part es t ≤ length es
-  pub left-tree : tree es (left_part es t) ≡ a
-  pub right-tree : tree es (right_part es t) ≡ c
+  pub left_known : left_part es t ≤ length es
+  pub right_known : right_part es t ≤ length es
+  pub left_tree : tree es (left_part es t) ≡ a
+  pub right_tree : tree es (right_part es t) ≡ c
 
 -- an entry with the tree that a test is for passes the test
 module _ (es : List TypeEntry) (table : Table es) where
@@ -249,18 +249,18 @@ module _ (es : List TypeEntry) (table : Table es) where
       let (k, p, q) = node-parts _ _ _ _ _ _ (sym (tree_suc es table.lower t no_entry h) ∙ e) in
       record {
         test = and_from (ltb t (length es)) _ (lt-ltb t (length es) h) (entry-same (entry es t) _ k refl refl);
-        left-known = omega arith;
-        right-known = omega arith;
-        left-tree = p;
-        right-tree = q;
+        left_known = omega arith;
+        right_known = omega arith;
+        left_tree = p;
+        right_tree = q;
       }
 
   pub node-tree : (kind : TypeKind) (t l r : ℕ) → t ≤ length es → l ≤ length es → r ≤ length es
       → tree es t ≡ node kind (tree es l) (tree es r) → is_node es kind t l r ≡ true
   node-tree kind t l r h hl hr e =
       let p = parts kind t (tree es l) (tree es r) h e in
-      let el = table.distinct _ l p.left-known hl p.left-tree in
-      let er = table.distinct _ r p.right-known hr p.right-tree in
+      let el = table.distinct _ l p.left_known hl p.left_tree in
+      let er = table.distinct _ r p.right_known hr p.right_tree in
       subst (λ i. is_node es kind t l i ≡ true) er (subst (λ i. is_node es kind t i (right_part es t) ≡ true) el p.test)
 
   pub power-tree : (n t : ℕ) → 0 < n → t ≤ length es → tree es t ≡ power n → is_power es n t ≡ true
@@ -268,7 +268,7 @@ module _ (es : List TypeEntry) (table : Table es) where
   power-tree (suc zero) t h l e = eq-eqb t 0 (table.distinct t 0 l (omega arith) (e ∙ sym (tree_zero es)))
   power-tree (suc (suc n)) t h l e =
       let p = parts Pair t qubit (power (suc n)) l e in
-      let el = table.distinct _ 0 p.left-known (omega arith) (p.left-tree ∙ sym (tree_zero es)) in
+      let el = table.distinct _ 0 p.left_known (omega arith) (p.left_tree ∙ sym (tree_zero es)) in
       and_from (is_node es Pair t 0 (right_part es t)) _
       (subst (λ i. is_node es Pair t i (right_part es t) ≡ true) el p.test)
-      (power-tree (suc n) (right_part es t) (omega arith) p.right-known p.right-tree)
+      (power-tree (suc n) (right_part es t) (omega arith) p.right_known p.right_tree)

@@ -11,7 +11,7 @@ use Rattle.basics.specs.declared.numbers.Wire.{Wire}
 use Rattle.basics.specs.declared.refusal.Refusal.TheVariants.{WireMisuse, AtCapacity, NotTaken}
 use Rattle.basics.specs.Gates.{arity}
 use Rattle.target.specs.Interface.{numbers_of, seated, apply_fault, applied_view, shares, apart_from, all_codes}
-use Rattle.target.proofs.WireLaws.{apart-wires, arity-few}
+use Rattle.target.proofs.WireLaws.{apart-wires, arity_few}
 use Rattle.gate_list.specs.declared.Applied.{Applied}
 use Rattle.gate_list.specs.GateList.{Met, State, met_of, seats_of, applied_of, recorded, meetings, by_wire, meets, emptied, lengthened, state_of, room, list_view, MeetsEach, MetByRecords}
 
@@ -60,7 +60,7 @@ seats_front ws n e le =
 
 -- a gate and its wires, written down and read again
 read_back : (g : Gate) (ws : List Wire) → length ws ≡ arity g → met_of (applied_of g ws) ≡ record { gate = g; wires = numbers_of ws }
-read_back g ws e = ap (λ (l : List ℕ). record { gate = g; wires = l }) (seats_front ws (arity g) e (arity-few g))
+read_back g ws e = ap (λ (l : List ℕ). record { gate = g; wires = l }) (seats_front ws (arity g) e (arity_few g))
 
 -- one more record is one more gate
 pub recorded-push : (items : List Applied) (n : ℕ) (g : Gate) (ws : List Wire) → n < length items → length ws ≡ arity g → recorded (slice_set items n (applied_of g ws)) (suc n) ≡ recorded items n ++ record { gate = g; wires = numbers_of ws } ∷ []

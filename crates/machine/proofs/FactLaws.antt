@@ -44,42 +44,42 @@ module _ (es : List TypeEntry) (table : Table es) (i : ℕ) (h : i < length es) 
   before : length (take i es) ≡ i
   before = length-take-le i es (omega arith)
 
-  pub left-known : entry.left.0 < length facts
-  left-known = omega (arith, length-facts (take i es) facts known, before, (table.lower i h no_entry).0)
+  pub left_known : entry.left.0 < length facts
+  left_known = omega (arith, length-facts (take i es) facts known, before, (table.lower i h no_entry).0)
 
-  pub right-known : entry.right.0 < length facts
-  right-known = omega (arith, length-facts (take i es) facts known, before, (table.lower i h no_entry).1)
+  pub right_known : entry.right.0 < length facts
+  right_known = omega (arith, length-facts (take i es) facts known, before, (table.lower i h no_entry).1)
 
-  abbrev left-tree : Tree
-  left-tree = get_or (trees (take i es)) entry.left.0 qubit
+  abbrev left_tree : Tree
+  left_tree = get_or (trees (take i es)) entry.left.0 qubit
 
-  abbrev right-tree : Tree
-  right-tree = get_or (trees (take i es)) entry.right.0 qubit
+  abbrev right_tree : Tree
+  right_tree = get_or (trees (take i es)) entry.right.0 qubit
 
-  few : atoms left-tree + atoms right-tree ≤ 16
-  few = subst (λ n. n ≤ 16) (ap atoms (tree-unfolded es i no_entry h) ∙ atoms-node entry.kind left-tree right-tree) (table.small (suc i) (omega arith))
+  few : atoms left_tree + atoms right_tree ≤ 16
+  few = subst (λ n. n ≤ 16) (ap atoms (tree-unfolded es i no_entry h) ∙ atoms-node entry.kind left_tree right_tree) (table.small (suc i) (omega arith))
 
   module _ (l r : TypeFacts) (is-left : l ≡ get_or facts entry.left.0 l) (is_right : r ≡ get_or facts entry.right.0 r) where
-    left_is : l ≡ facts_of left-tree
-    left_is = is-left ∙ fact_at (take i es) facts known entry.left.0 l (omega (arith, length-facts (take i es) facts known, left-known))
+    left_is : l ≡ facts_of left_tree
+    left_is = is-left ∙ fact_at (take i es) facts known entry.left.0 l (omega (arith, length-facts (take i es) facts known, left_known))
 
-    right_is : r ≡ facts_of right-tree
-    right_is = is_right ∙ fact_at (take i es) facts known entry.right.0 r (omega (arith, length-facts (take i es) facts known, right-known))
+    right_is : r ≡ facts_of right_tree
+    right_is = is_right ∙ fact_at (take i es) facts known entry.right.0 r (omega (arith, length-facts (take i es) facts known, right_known))
 
     pub some_right : 0 < r.width
-    some_right = subst⁻¹ (λ (f : TypeFacts). 0 < f.width) right_is (atoms_pos right-tree)
+    some_right = subst⁻¹ (λ (f : TypeFacts). 0 < f.width) right_is (atoms_pos right_tree)
 
     pub few-both : l.width + r.width ≤ 16
     few-both = subst⁻¹ (λ n. n ≤ 16) (ap₂ (λ (a c : TypeFacts). a.width + c.width) left_is right_is) few
 
     pub within-right : r.signs < 2 ^ r.width
-    within-right = subst⁻¹ (λ (f : TypeFacts). f.signs < 2 ^ f.width) right_is (signs_lt right-tree)
+    within-right = subst⁻¹ (λ (f : TypeFacts). f.signs < 2 ^ f.width) right_is (signs_lt right_tree)
 
     -- one more entry
     pub facts-more : facts ++ (joined_facts entry.kind l r ∷ []) ≡ map facts_of (trees (take (i + 1) es))
     facts-more =
         ap₂ (λ (fs : List TypeFacts) (f : TypeFacts). fs ++ (f ∷ [])) known
-        (ap₂ (λ (a c : TypeFacts). joined_facts entry.kind a c) left_is right_is ∙ sym (facts-node entry.kind left-tree right-tree))
+        (ap₂ (λ (a c : TypeFacts). joined_facts entry.kind a c) left_is right_is ∙ sym (facts-node entry.kind left_tree right_tree))
         ∙ sym (ap (λ l. map facts_of (trees l)) (take_more es i no_entry h) ∙ ap (map facts_of) (trees-push (take i es) entry) ∙ map_push facts_of (trees (take i es)) (unfolded (trees (take i es)) entry))
 
 -- what stands in a marked list

@@ -39,7 +39,7 @@ module _ (es : List TypeEntry) (rows : List Row) (b : Kept) (n w : ℕ) where
 
   pub record AtSeat (s : Seat) : Type 0 where
     pub row_in : s.row.0 < length rows
-    pub arity-few : s.arity ≤ 3
+    pub arity_few : s.arity ≤ 3
     pub gated : gate_at rows s.row.0 ≡ None → ⊥
     pub ruled : (g : GateName) → gate_at rows s.row.0 ≡ Some g → rule_at rows place.row.0 ≡ Gate g
     pub short : (Full s → ⊥) → movable es rows b.tokens place ≡ false
@@ -60,7 +60,7 @@ module _ (es : List TypeEntry) (rows : List Row) (b : Kept) (n w : ℕ) where
         let rule = λ (g : GateName). gate-of rows place.row.0 g low in
         record {
           row_in = low;
-          arity-few = seats-few (rule_at rows place.row.0);
+          arity_few = seats-few (rule_at rows place.row.0);
           gated = λ none. none_some (sym none ∙ cond-true (ltb place.row.0 (length rows)) _ _ (lt-ltb _ _ low) ∙ ap gate_in gate);
           ruled = rule;
           short = waits es rows a b n so right w l seat;

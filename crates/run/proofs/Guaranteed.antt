@@ -72,7 +72,7 @@ guarantee takes begun applied commutes es rows theory v fine =
       goes_on = λ calls. goes-iff takes begun applied es rows theory firing v fine _ (going calls);
       counted = λ calls. let g = going calls in (theory.count _ _ g.fired g.reached).0;
       swept = λ calls b. (sweep-well takes begun applied es rows theory firing v fine b (after takes begun applied es rows v calls) (going calls)).1;
-      ends-known = λ calls home. let g = going calls in theory.foreseen _ _ g.fired g.reached home;
+      ends_known = λ calls home. let g = going calls in theory.foreseen _ _ g.fired g.reached home;
       made = λ calls. let g = going calls in (g.fired, g.reached, g.state);
       alike = λ u sound e calls others hs ht.
           same_states takes begun applied es rows theory firing commutes v u _ _ (going calls) (after-going takes begun applied es rows theory firing u sound others) e hs ht;

@@ -20,7 +20,7 @@ use Rattle.theory.proofs.Progress.{advanced_at, mates_no-end, move_facts, next_a
 use Rattle.theory.proofs.Ways.{among-at, among-here, mates-from, place-parts, seat_no_end}
 use Rattle.run.specs.Books.{Kept, Right, nobody, stepped, stepped_all}
 use Rattle.run.proofs.Standing.{nowhere, Held, Known, full-held, held-full}
-use Rattle.run.proofs.RightLaws.{spots, can_movable, known-right, movable_can, right-known}
+use Rattle.run.proofs.RightLaws.{spots, can_movable, known-right, movable_can, right_known}
 use Rattle.run.proofs.Stepping.{Unlike, awaited, all-step}
 use Rattle.run.proofs.Leaving.{leave_plain}
 
@@ -100,7 +100,7 @@ module _ (es : List TypeEntry) (rows : List Row) (a : Accepted es rows) where
   -- what is kept of a run is right
   module _ (b : Kept) {n : ℕ} {fired : List Fired} (run : Reached es rows b.tokens n fired) (right : Right es rows b) where
     pub known : Known es rows (spots rows b.tokens) b
-    known = right-known es rows b (run_apart run) (run_stand run) right
+    known = right_known es rows b (run_apart run) (run_stand run) right
 
     -- the move of a wire that can move
     pub made : (w : ℕ) → w < length b.tokens → movable es rows b.tokens (get_or b.tokens w no_place) ≡ true

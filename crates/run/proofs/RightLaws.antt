@@ -73,8 +73,8 @@ module _ (es : List TypeEntry) (rows : List Row) (b : Kept)
     (apart : (w v : ℕ) → w < length b.tokens → v < length b.tokens → get_or b.tokens w no_place ≡ get_or b.tokens v no_place → w ≡ v)
     (stand : (w : ℕ) → w < length b.tokens → is_place es rows (get_or b.tokens w no_place) ≡ true) where
   -- what is kept of tokens at places of their own is known to be right if it is right
-  pub right-known : Right es rows b → Known es rows (spots rows b.tokens) b
-  right-known right = record {
+  pub right_known : Right es rows b → Known es rows (spots rows b.tokens) b
+  right_known right = record {
     rowed = right.fit.0;
     roomy = right.fit.1;
     past = λ v h. (ap (λ m. has m v) right.ready ∙ where_past es rows b.tokens _ v h, get_or_past b.tokens v (nowhere rows) h);

@@ -24,7 +24,7 @@ OpenAnswers fault opened (Err e) after = (fault ≡ Some e) ⊎ (e ≡ OutOfMemo
 
 -- a run that has just been made over a derivation: its own derivation, its tokens and its moves
 abbrev pub Fresh : List TypeEntry → List Row → List TypeEntry → List Row → List Place → ℕ → Type 0
-Fresh es rows own-types own-rows tokens moves = (own-types ≡ es) × (own-rows ≡ rows) × (tokens ≡ starts es rows) × (moves ≡ 0)
+Fresh es rows own_types own_rows tokens moves = (own_types ≡ es) × (own_rows ≡ rows) × (tokens ≡ starts es rows) × (moves ≡ 0)
 
 -- the place of a wire's token
 abbrev pub place_of : List Place → ℕ → Result Place Refusal

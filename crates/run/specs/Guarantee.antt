@@ -36,7 +36,7 @@ module _ {S : Type 0} (takes : Gate → Bool) (begun : ℕ → ℕ → ℕ → S
         let s = sweep_of takes applied es rows b (after v calls) in
         s.answer ≡ Ok (min b (moves es rows - (after v calls).moves), all_home es rows s.after.tokens)
     -- once all are home, each wire stands at the end to which next leads it from its start
-    pub ends-known : (calls : List Call) → Home es rows (after v calls).tokens → (after v calls).tokens ≡ finals es rows
+    pub ends_known : (calls : List Call) → Home es rows (after v calls).tokens → (after v calls).tokens ≡ finals es rows
     -- at any moment the state is what begin and then the gates fired by the machine's moves make of the state before open
     pub made : (calls : List Call) → (fired : List Fired) × Reached es rows (after v calls).tokens (after v calls).moves fired × ((after v calls).target.state ≡ circuit v.state fired)
     -- two targets of the kind with equal states before open have equal states once all tokens are home, whatever the lists

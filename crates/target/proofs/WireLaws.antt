@@ -7,15 +7,15 @@ use Rattle.basics.specs.Gates.{arity}
 use Rattle.derivation.proofs.SetLaws.{eqb_swap}
 use Rattle.target.specs.Interface.{apart_from, shares}
 
-pub arity-few : (g : Gate) → arity g ≤ 3
-arity-few H = omega arith
-arity-few S = omega arith
-arity-few T = omega arith
-arity-few X = omega arith
-arity-few Z = omega arith
-arity-few Cx = omega arith
-arity-few Cz = omega arith
-arity-few Ccx = omega arith
+pub arity_few : (g : Gate) → arity g ≤ 3
+arity_few H = omega arith
+arity_few S = omega arith
+arity_few T = omega arith
+arity_few X = omega arith
+arity_few Z = omega arith
+arity_few Cx = omega arith
+arity_few Cz = omega arith
+arity_few Ccx = omega arith
 
 neither : (a b : Bool) → cond a true b ≡ false → (a ≡ false) × (b ≡ false)
 neither true b h = absurd (true≢false h)

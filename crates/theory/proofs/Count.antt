@@ -155,10 +155,10 @@ module _ (es : List TypeEntry) (rows : List Row) (a : Accepted es rows) (ports :
     leader-with = with_to es rows p (leader es rows a p) on (leader_mate es rows a p)
 
     leader-here : is_place es rows (leader es rows a p) ≡ true
-    leader-here = (marked es rows a ports begin).with-here p (leader es rows a p) here leader-with
+    leader-here = (marked es rows a ports begin).with_here p (leader es rows a p) here leader-with
 
     leader-on : is_end es rows (leader es rows a p) ≡ false
-    leader-on = (marked es rows a ports begin).with-end p (leader es rows a p) leader-with
+    leader-on = (marked es rows a ports begin).with_end p (leader es rows a p) leader-with
 
     -- the place after it is a lead place, the only one that is entered, and stands among the places once
     abbrev entry : Place
@@ -239,7 +239,7 @@ module _ (es : List TypeEntry) (rows : List Row) (a : Accepted es rows) (ports :
       let f = run_fact es rows a ports begin r in
       let left = left_by es rows r in
       let apart : (q : Place) → left q ≡ true → (machine es rows).with p q ≡ true → ⊥
-      = λ q y z. both_ways (left p) (f.off w h) (f.whole q p ((marked es rows a ports begin).with-sym p q z) y) in
+      = λ q y z. both_ways (left p) (f.off w h) (f.whole q p ((marked es rows a ports begin).with_sym p q z) y) in
       ⊎_elim
       (λ e. e)
       (λ on. absurd (omega (arith, full, reached-many r, led_more left p (f.stands w h) on apart, led_few (leaving (machine es rows) left p))))

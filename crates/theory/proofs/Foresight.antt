@@ -41,7 +41,7 @@ module _ (es : List TypeEntry) (rows : List Row) where
   module _ (a : Accepted es rows) (ports : PortLaws es rows) (begin : StartLaws es rows) where
     -- what moves with a place is no end
     no_end : (p q : Place) → (machine es rows).with p q ≡ true → is_end es rows q ≡ false
-    no_end p q y = (marked es rows a ports begin).with-end p q y
+    no_end p q y = (marked es rows a ports begin).with_end p q y
 
     -- each token has gone at most as many steps as there were moves
     gone : {tokens : List Place} {n : ℕ} {fired : List Fired} → Reached es rows tokens n fired → (v : ℕ) → v < wires es rows → (k : ℕ) × (k ≤ n) × Leads k (placed (starts es rows) v) (placed tokens v)

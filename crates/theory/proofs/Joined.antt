@@ -98,8 +98,8 @@ module _ (es : List TypeEntry) (rows : List Row) (a : Accepted es rows) where
         ap is_gate e,
       )
   joined_pass r h (Joins.result {f = f} {a = b} {i = i} e w) = link_passes (apply-result es rows a r h f b e i _ refl w)
-  joined_pass r h (Joins.left_part_lem {p = p} {q = q} {i = i} e w) = link_passes (pair-first es rows a r h p q e i w)
-  joined_pass r h (Joins.right_part_lem {p = p} {q = q} {i = i} e w) = link_passes (pair-second es rows a r h p q e _ i refl w)
+  joined_pass r h (Joins.left_part {p = p} {q = q} {i = i} e w) = link_passes (pair-first es rows a r h p q e i w)
+  joined_pass r h (Joins.right_part {p = p} {q = q} {i = i} e w) = link_passes (pair-second es rows a r h p q e _ i refl w)
 
   -- a place that passes a rule which it enters comes next to the place that it passes to
   passes-next : (r : ℕ) (p q : Place) → r < length rows → Enters es rows r p → Passes r p q → next es rows p ≡ Some q

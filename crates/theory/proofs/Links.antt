@@ -238,7 +238,7 @@ module _ (es : List TypeEntry) (rows : List Row) (a : Accepted es rows) where
     pair-first i l =
         let (t, env, d) = rule_says es rows a r (Pair p p') h e in
         let w = ap atoms t in
-        types r h (Pair p p') e p.0 i i (listed-first p.0 (p'.0 ∷ [])) (Joins.left_part_lem e l) (omega arith) l
+        types r h (Pair p p') e p.0 i i (listed-first p.0 (p'.0 ∷ [])) (Joins.left_part e l) (omega arith) l
         (first _ _ _ (lt-ltb _ _ l))
         (first _ _ _ (eq-eqb p.0 p.0 refl))
         (pair_left _ _ _ i t l)
@@ -250,7 +250,7 @@ module _ (es : List TypeEntry) (rows : List Row) (a : Accepted es rows) where
         let w = ap atoms t in
         let n : i - width es rows p.0 ≡ j = omega arith in
         let differ = premises_differ es rows a r p.0 p'.0 h (ap premises e) in
-        types r h (Pair p p') e p'.0 i j (listed-second p.0 p'.0) (subst (λ n. Joins es rows r (at r n) (at p'.0 j)) (sym s) (Joins.right_part_lem e l)) (omega arith) l
+        types r h (Pair p p') e p'.0 i j (listed-second p.0 p'.0) (subst (λ n. Joins es rows r (at r n) (at p'.0 j)) (sym s) (Joins.right_part e l)) (omega arith) l
         (second _ _ _ (le-ltb i (width es rows p.0) (omega arith)) ∙ same _ _ (ap (at p'.0) n))
         (second _ _ _ (ne_eqb p'.0 p.0 (λ q. differ (sym q))) ∙ same _ _ (ap (at r) (sym s)))
         (pair-right _ _ _ i t j s)

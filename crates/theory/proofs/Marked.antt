@@ -19,15 +19,15 @@ module _ {P : Type 0} (g : Net P) where
   -- starts differ, no two places lead to one, none to a start, and what moves together is a class of places that are no ends
   pub record Marked : Type 0 where
     pub apart : (w v : ℕ) → w < g.wires → v < g.wires → g.start w ≡ g.start v → w ≡ v
-    pub start-here : (w : ℕ) → w < g.wires → g.here (g.start w) ≡ true
+    pub start_here : (w : ℕ) → w < g.wires → g.here (g.start w) ≡ true
     pub next_here : (p : P) → g.here p ≡ true → g.end p ≡ false → g.here (g.next p) ≡ true
     pub one_way : (p q : P) → g.here p ≡ true → g.here q ≡ true → g.end p ≡ false → g.end q ≡ false → g.next p ≡ g.next q → p ≡ q
     pub from_start : (p : P) (w : ℕ) → w < g.wires → g.here p ≡ true → g.end p ≡ false → g.next p ≡ g.start w → ⊥
-    pub with-self : (p : P) → g.end p ≡ false → g.with p p ≡ true
-    pub with-sym : (p q : P) → g.with p q ≡ true → g.with q p ≡ true
-    pub with-trans : (p q r : P) → g.with p q ≡ true → g.with q r ≡ true → g.with p r ≡ true
-    pub with-end : (p q : P) → g.with p q ≡ true → g.end q ≡ false
-    pub with-here : (p q : P) → g.here p ≡ true → g.with p q ≡ true → g.here q ≡ true
+    pub with_self : (p : P) → g.end p ≡ false → g.with p p ≡ true
+    pub with_sym : (p q : P) → g.with p q ≡ true → g.with q p ≡ true
+    pub with_trans : (p q r : P) → g.with p q ≡ true → g.with q r ≡ true → g.with p r ≡ true
+    pub with_end : (p q : P) → g.with p q ≡ true → g.end q ≡ false
+    pub with_here : (p q : P) → g.here p ≡ true → g.with p q ≡ true → g.here q ≡ true
 
   -- p is the start of a wire
   abbrev pub Started : P → Type 0
@@ -78,7 +78,7 @@ module _ {P : Type 0} (g : Net P) where
     -- at the starts nothing has been left
     pub start-fact : RunFact g.start (λ p. false)
     start-fact = record {
-      stands = l.start-here;
+      stands = l.start_here;
       off = λ w h. refl;
       distinct = l.apart;
       goes_on = λ p e. absurd (both_ways false refl e);
@@ -94,7 +94,7 @@ module _ {P : Type 0} (g : Net P) where
       -- where a token goes none has been yet
       pub fresh : (v : ℕ) → v < g.wires → g.with p (at v) ≡ true → Visited at left (g.next (at v)) → ⊥
       fresh v h e visited =
-          let no_end = l.with-end p (at v) e in
+          let no_end = l.with_end p (at v) e in
           ⊎_elim
           (λ (s : Started (g.next (at v))). l.from_start (at v) s.0 s.1 (f.stands v h) no_end (sym s.2))
           (λ (q : (q : P) × (left q ≡ true) × (g.next q ≡ g.next (at v))).
@@ -129,7 +129,7 @@ module _ {P : Type 0} (g : Net P) where
       -- tokens still stand on places
       stands_after : (v : ℕ) → v < g.wires → g.here (after v) ≡ true
       stands_after v h = ⊎_elim
-          (λ e. subst⁻¹ (λ (x : P). g.here x ≡ true) (moved v h e) (l.next_here (at v) (f.stands v h) (l.with-end p (at v) e)))
+          (λ e. subst⁻¹ (λ (x : P). g.here x ≡ true) (moved v h e) (l.next_here (at v) (f.stands v h) (l.with_end p (at v) e)))
           (λ e. subst⁻¹ (λ (x : P). g.here x ≡ true) (stays v h e) (f.stands v h))
           (cases_Bool (g.with p (at v)))
 
@@ -148,7 +148,7 @@ module _ {P : Type 0} (g : Net P) where
       distinct-after v u hv hu same = ⊎_elim
           (λ ev. ⊎_elim
           (λ eu. f.distinct v u hv hu
-          (l.one_way (at v) (at u) (f.stands v hv) (f.stands u hu) (l.with-end p (at v) ev) (l.with-end p (at u) eu)
+          (l.one_way (at v) (at u) (f.stands v hv) (f.stands u hu) (l.with_end p (at v) ev) (l.with_end p (at u) eu)
           (sym (moved v hv ev) ∙ same ∙ moved u hu eu)))
           (λ nu. absurd (fresh v hv ev (inr (u, hu, sym (stays u hu nu) ∙ sym same ∙ moved v hv ev))))
           (cases_Bool (g.with p (at u))))
@@ -163,7 +163,7 @@ module _ {P : Type 0} (g : Net P) where
           → (g.here q ≡ true) × (g.end q ≡ false) × Visited after (leaving left p) (g.next q)
       goes-on-after h q e = ⊎_elim
           (λ y. let (here, no_end, visited) = f.goes_on q y in (here, no_end, visited-on (g.next q) visited))
-          (λ y. (l.with-here p q h y, l.with-end p q y, visited-new q y))
+          (λ y. (l.with_here p q h y, l.with_end p q y, visited-new q y))
           (or_cases (left q) (g.with p q) e)
 
       -- before a visited place is one that was left, or it is a start
@@ -183,7 +183,7 @@ module _ {P : Type 0} (g : Net P) where
         came = came-after;
         whole = λ q r y e. ⊎_elim
             (λ a. or_left (left r) (g.with p r) (f.whole q r y a))
-            (λ a. or_right (left r) (g.with p r) (l.with-trans p q r a y))
+            (λ a. or_right (left r) (g.with p r) (l.with_trans p q r a y))
             (or_cases (left q) (g.with p q) e);
         begun = λ w y. visited-on (g.start w) (f.begun w y);
       }
@@ -193,7 +193,7 @@ module _ {P : Type 0} (g : Net P) where
       comes-after v h (k, free, e) = ⊎_elim
           (λ y.
           let here : (j : ℕ) → j ≡ k → g.end (way v j) ≡ false
-          = λ j s. subst⁻¹ (λ (x : P). g.end x ≡ false) (ap (way v) s ∙ e) (l.with-end p (at v) y) in
+          = λ j s. subst⁻¹ (λ (x : P). g.end x ≡ false) (ap (way v) s ∙ e) (l.with_end p (at v) y) in
           (suc k, (λ j b. ⊎_elim (free j) (here j) (below_suc j k b)), ap g.next e ∙ sym (moved v h y)))
           (λ y. (k, free, e ∙ sym (stays v h y)))
           (cases_Bool (g.with p (at v)))
@@ -211,8 +211,8 @@ module _ {P : Type 0} (g : Net P) where
           (λ y. (f.goes_on p y).2)
           (λ n.
           let held : (q : P) → g.with p q ≡ true → Held at q
-          = λ q y. ⊎_elim (λ z. absurd (both_ways (left p) n (f.whole q p (l.with-sym p q y) z))) (λ h. h) (mates q y) in
-          let (w, h, s) = held p (l.with-self p e) in
+          = λ q y. ⊎_elim (λ z. absurd (both_ways (left p) n (f.whole q p (l.with_sym p q y) z))) (λ h. h) (mates q y) in
+          let (w, h, s) = held p (l.with_self p e) in
           absurd (stuck w h (subst⁻¹ (λ (x : P). Enabled at x) s (e, held))))
           (cases_Bool (left p)))
 
@@ -223,15 +223,15 @@ module _ {P : Type 0} (g : Net P) where
           (λ n. absurd (stuck w h (
             n,
             (λ q y. ⊎_elim
-                (λ z. absurd (both_ways (left (at w)) (f.off w h) (f.whole q (at w) (l.with-sym (at w) q y) z)))
+                (λ z. absurd (both_ways (left (at w)) (f.off w h) (f.whole q (at w) (l.with_sym (at w) q y) z)))
                 (λ x. x)
-                (stuck-visited q (l.with-here (at w) q (f.stands w h) y))),
+                (stuck-visited q (l.with_here (at w) q (f.stands w h) y))),
           )))
           (cases_Bool (g.end (at w)))
 
     -- the first places of a way are places
     way-here : (w k : ℕ) → w < g.wires → ((j : ℕ) → j < k → g.end (way w j) ≡ false) → g.here (way w k) ≡ true
-    way-here w zero h free = l.start-here w h
+    way-here w zero h free = l.start_here w h
     way-here w (suc k) h free = l.next_here (way w k) (way-here w k h (λ j b. free j (omega arith))) (free k (omega arith))
 
     -- ways of different wires do not meet

@@ -123,17 +123,17 @@ module _ (es : List TypeEntry) (rows : List Row) (a : Accepted es rows) (ports :
   pub marked : Marked (machine es rows)
   marked = record {
     apart = begin.distinct;
-    start-here = λ w h. (begin.each w h).0;
+    start_here = λ w h. (begin.each w h).0;
     next_here = λ p h e. (ports.forth p (advance es rows p) h (next_advance es rows ports p h e)).0;
     one_way = λ p q hp hq ep eq same. same_some (sym (prev_advance es rows ports p hp ep) ∙ ap (prev es rows) same ∙ prev_advance es rows ports q hq eq);
     from_start = λ p w h hp e same.
         let (here, start) = begin.each w h in
         none_some (sym (ports.at_start _ here start) ∙ ap (prev es rows) (sym same) ∙ prev_advance es rows ports p hp e);
-    with-self = λ p e. with_to es rows p p e (mates_self es rows p);
-    with-sym = λ p q e. let (n, m) = with-from es rows p q e in with_to es rows q p (mates_no-end es rows a p q n m) (mates_sym es rows p q m);
-    with-trans = λ p q r e f. let (n, m) = with-from es rows p q e in with_to es rows p r n (mates_trans es rows p q r m (with-from es rows q r f).1);
-    with-end = λ p q e. let (n, m) = with-from es rows p q e in mates_no-end es rows a p q n m;
-    with-here = λ p q h e. mates-here es rows a p q h (with-from es rows p q e).1;
+    with_self = λ p e. with_to es rows p p e (mates_self es rows p);
+    with_sym = λ p q e. let (n, m) = with-from es rows p q e in with_to es rows q p (mates_no-end es rows a p q n m) (mates_sym es rows p q m);
+    with_trans = λ p q r e f. let (n, m) = with-from es rows p q e in with_to es rows p r n (mates_trans es rows p q r m (with-from es rows q r f).1);
+    with_end = λ p q e. let (n, m) = with-from es rows p q e in mates_no-end es rows a p q n m;
+    with_here = λ p q h e. mates-here es rows a p q h (with-from es rows p q e).1;
   }
 
 -- the places that the tokens have left, by the moves that were made

@@ -98,11 +98,11 @@ module _ (es : List TypeEntry) (rows : List Row) (S : Place → Type 0) where
     left : (z : ℕ) → In rows p z → In rows r z
     right : (z : ℕ) → In rows q z → In rows r z
     apart : (z : ℕ) → In rows p z → In rows q z → ⊥
-    keeps-left : (z : ℕ) → In rows p z → Keeps r p z
-    keeps-right : (z : ℕ) → In rows q z → Keeps r q z
+    keeps_left : (z : ℕ) → In rows p z → Keeps r p z
+    keeps_right : (z : ℕ) → In rows q z → Keeps r q z
     out : RowGives p → RowGives q → RowGives r
-    to-left : RowGives q → RowTakes r → RowTakes p
-    to-right : RowGives p → RowTakes r → RowTakes q
+    to_left : RowGives q → RowTakes r → RowTakes p
+    to_right : RowGives p → RowTakes r → RowTakes q
 
   module _ (r p : ℕ) (B : ℕ → Type 0) (b : Binds r p B) where
     -- a premise is given what its row is given and binds
@@ -125,10 +125,10 @@ module _ (es : List TypeEntry) (rows : List Row) (S : Place → Type 0) where
   module _ (r p q : ℕ) (b : Shares r p q) where
     -- each premise is given its part of what its row is given
     given-left : (P : ℕ → Type 0) → Given r P → Given p P
-    given-left P gs z i h = gives_on (tree_at es rows z) (b.keeps-left z i) (gs z (b.left z i) h)
+    given-left P gs z i h = gives_on (tree_at es rows z) (b.keeps_left z i) (gs z (b.left z i) h)
 
     given-right : (P : ℕ → Type 0) → Given r P → Given q P
-    given-right P gs z i h = gives_on (tree_at es rows z) (b.keeps-right z i) (gs z (b.right z i) h)
+    given-right P gs z i h = gives_on (tree_at es rows z) (b.keeps_right z i) (gs z (b.right z i) h)
 
     module _ (serve : (z : ℕ) → listed z (p ∷ q ∷ []) ≡ true → Serves z) where
       -- what each premise gives
@@ -143,10 +143,10 @@ module _ (es : List TypeEntry) (rows : List Row) (S : Place → Type 0) where
       serves-shares = record {
         out = λ gs. b.out (left-gives (given-left Any gs)) (right-gives (given-right Any gs));
         back = λ x i gs k. ⊎_elim
-            (λ j. takes_on (tree_at es rows x) (b.keeps-left x j) ((serve p (listed-first p (q ∷ []))).back x j (given-left (But x) gs)
-            (b.to-left (right-gives (λ z m h. given-right (But x) gs z m (λ e. b.apart x j (subst (In rows q) e m)))) k)))
-            (λ j. takes_on (tree_at es rows x) (b.keeps-right x j) ((serve q (listed-second p q)).back x j (given-right (But x) gs)
-            (b.to-right (left-gives (λ z m h. given-left (But x) gs z m (λ e. b.apart x (subst (In rows p) e m) j))) k)))
+            (λ j. takes_on (tree_at es rows x) (b.keeps_left x j) ((serve p (listed-first p (q ∷ []))).back x j (given-left (But x) gs)
+            (b.to_left (right-gives (λ z m h. given-right (But x) gs z m (λ e. b.apart x j (subst (In rows q) e m)))) k)))
+            (λ j. takes_on (tree_at es rows x) (b.keeps_right x j) ((serve q (listed-second p q)).back x j (given-right (But x) gs)
+            (b.to_right (left-gives (λ z m h. given-left (But x) gs z m (λ e. b.apart x (subst (In rows p) e m) j))) k)))
             (b.split x i);
       }
 
@@ -155,8 +155,8 @@ module _ (es : List TypeEntry) (rows : List Row) (S : Place → Type 0) where
           let gs = given-left Any d.gives in
           let hs = given-right Any d.gives in
           ⊎_elim
-          (λ e. subst Fed e (record { gives = gs; takes = b.to-left (right-gives hs) d.takes }))
-          (λ e. subst Fed e (record { gives = hs; takes = b.to-right (left-gives gs) d.takes }))
+          (λ e. subst Fed e (record { gives = gs; takes = b.to_left (right-gives hs) d.takes }))
+          (λ e. subst Fed e (record { gives = hs; takes = b.to_right (left-gives gs) d.takes }))
           (listed_two z p q h)
 
   -- what each rule makes of its row and its premises
@@ -368,16 +368,16 @@ module _
       → (RowGives es rows S q → RowTakes es rows S r → RowTakes es rows S p)
       → (RowGives es rows S p → RowTakes es rows S r → RowTakes es rows S q)
       → Shares es rows S r p q
-  shares_by r p q h apart both link out to-left to-right = record {
+  shares_by r p q h apart both link out to_left to_right = record {
     split = λ z i. or_cases _ _ (sym (both z) ∙ i);
     left = λ z i. both z ∙ or_left _ _ i;
     right = λ z i. both z ∙ or_right _ _ i;
     apart = apart;
-    keeps-left = λ z i j l. sends h (link p z j (listed-first p (q ∷ [])) i l);
-    keeps-right = λ z i j l. sends h (link q z j (listed-second p q) i l);
+    keeps_left = λ z i j l. sends h (link p z j (listed-first p (q ∷ [])) i l);
+    keeps_right = λ z i j l. sends h (link q z j (listed-second p q) i l);
     out = out;
-    to-left = to-left;
-    to-right = to-right;
+    to_left = to_left;
+    to_right = to_right;
   }
 
   -- an application of a function to its argument

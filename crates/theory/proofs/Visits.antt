@@ -164,7 +164,7 @@ module _ (es : List TypeEntry) (rows : List Row) (a : Accepted es rows) (ports :
         let (mv, ev) = coming-with v yv in
         let (mu, eu) = coming-with u yu in
         f.distinct v u hv hu
-        (g.one_way _ _ (f.stands v hv) (f.stands u hu) (g.with-end _ _ mv) (g.with-end _ _ mu) (ev ∙ sym eu))
+        (g.one_way _ _ (f.stands v hv) (f.stands u hu) (g.with_end _ _ mv) (g.with_end _ _ mu) (ev ∙ sym eu))
 
     -- where a wire enters p
     tally-new : (log : List Stand) → Tally es rows r log p → (v : ℕ) → v < wires es rows → coming v ≡ true

@@ -43,14 +43,14 @@ module _ (es : List TypeEntry) (rows : List Row) where
 -- moves made, wires at ends, and gates fired by a sweep of some bytes
 pub record Summary : Type 0 where
   pub made : ℕ
-  pub at_ends_lem : List ℕ
+  pub wires_at_ends : List ℕ
   pub fired : List Fired
 
 abbrev pub summed : Result Derivation Refusal → Summary
 summed (Ok d) =
     let k = swept d.types d.rows 100 (begin d.types d.rows) in
-    record { made = k.made; at_ends_lem = at_ends d.types d.rows k; fired = k.fired }
-summed (Err e) = record { made = 0; at_ends_lem = []; fired = [] }
+    record { made = k.made; wires_at_ends = at_ends d.types d.rows k; fired = k.fired }
+summed (Err e) = record { made = 0; wires_at_ends = []; fired = [] }
 
 abbrev pub sweep : List ℕ → Summary
 sweep bytes = summed (derivation_of bytes)
@@ -71,9 +71,9 @@ counts_of (Err e) = []
 -- what the worked derivations come to, the lowest wire moving first
 pub record Examples : Type 0 where
   pub bell_counts : counts_of (derivation_of (bell 5)) ≡ 2 ∷ 10 ∷ []
-  pub bell_swept : sweep (bell 5) ≡ record { made = 10; at_ends_lem = 0 ∷ 1 ∷ []; fired = record { gate = H; wires = 0 ∷ [] } ∷ record { gate = Cx; wires = 0 ∷ 1 ∷ [] } ∷ [] }
+  pub bell_swept : sweep (bell 5) ≡ record { made = 10; wires_at_ends = 0 ∷ 1 ∷ []; fired = record { gate = H; wires = 0 ∷ [] } ∷ record { gate = Cx; wires = 0 ∷ 1 ∷ [] } ∷ [] }
   pub bell_twice : possible_from (derivation_of (bell 5)) (1 ∷ 1 ∷ []) ≡ true
   pub bell_waits : possible_from (derivation_of (bell 5)) (1 ∷ 1 ∷ 1 ∷ []) ≡ false
-  pub swap_swept : sweep swap ≡ record { made = 10; at_ends_lem = 1 ∷ 0 ∷ []; fired = [] }
-  pub hx_swept : sweep hx ≡ record { made = 5; at_ends_lem = 0 ∷ []; fired = record { gate = H; wires = 0 ∷ [] } ∷ [] }
-  pub cx_swept : sweep cx ≡ record { made = 7; at_ends_lem = 0 ∷ 1 ∷ []; fired = record { gate = Cx; wires = 0 ∷ 1 ∷ [] } ∷ [] }
+  pub swap_swept : sweep swap ≡ record { made = 10; wires_at_ends = 1 ∷ 0 ∷ []; fired = [] }
+  pub hx_swept : sweep hx ≡ record { made = 5; wires_at_ends = 0 ∷ []; fired = record { gate = H; wires = 0 ∷ [] } ∷ [] }
+  pub cx_swept : sweep cx ≡ record { made = 7; wires_at_ends = 0 ∷ 1 ∷ []; fired = record { gate = Cx; wires = 0 ∷ 1 ∷ [] } ∷ [] }

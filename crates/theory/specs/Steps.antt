@@ -31,8 +31,8 @@ pub data Joins (es : List TypeEntry) (rows : List Row) (r : ℕ) : Place → Pla
   argument : {f a : RowId} {i : ℕ} → rule_at rows r ≡ Apply f a → i < width es rows a.0 → Joins es rows r (at f.0 i) (at a.0 i)
   result : {f a : RowId} {i : ℕ} → rule_at rows r ≡ Apply f a → i < width es rows r → Joins es rows r (at r i) (at f.0 (width es rows a.0 + i))
   -- a pair and its two parts
-  left_part_lem : {p q : RowId} {i : ℕ} → rule_at rows r ≡ Pair p q → i < width es rows p.0 → Joins es rows r (at r i) (at p.0 i)
-  right_part_lem : {p q : RowId} {i : ℕ} → rule_at rows r ≡ Pair p q → i < width es rows q.0 → Joins es rows r (at r (width es rows p.0 + i)) (at q.0 i)
+  left_part : {p q : RowId} {i : ℕ} → rule_at rows r ≡ Pair p q → i < width es rows p.0 → Joins es rows r (at r i) (at p.0 i)
+  right_part : {p q : RowId} {i : ℕ} → rule_at rows r ≡ Pair p q → i < width es rows q.0 → Joins es rows r (at r (width es rows p.0 + i)) (at q.0 i)
 
 -- a token at p is about to enter the rule of row r: it climbs at r, or descends at a premise of r
 abbrev pub Enters : List TypeEntry → List Row → ℕ → Place → Type 0

@@ -44,7 +44,7 @@ room_for n s = record { state = s; used = 0; count = 0; width = 32; capacity = n
 -- a derivation walked on layers: what a sweep of 100 answers, the wires at the ends, and the layers of wires 0 and 1
 pub record Walked : Type 0 where
   pub answer : Result (ℕ × Bool) Refusal
-  pub at_ends_lem : List ℕ
+  pub wires_at_ends : List ℕ
   pub layers : List ℕ
 
 abbrev pub layers_of : Result Derivation Refusal → Walked
@@ -52,10 +52,10 @@ layers_of (Ok d) =
     let s = sweep_of all_codes layered d.types d.rows 100 (opened d.types d.rows fresh new_layers) in
     record {
       answer = s.answer;
-      at_ends_lem = map (wire_at s.after.tokens) (ends d.types d.rows);
+      wires_at_ends = map (wire_at s.after.tokens) (ends d.types d.rows);
       layers = slice_index s.after.target.state 0 ∷ slice_index s.after.target.state 1 ∷ [];
     }
-layers_of (Err e) = record { answer = Err e; at_ends_lem = []; layers = [] }
+layers_of (Err e) = record { answer = Err e; wires_at_ends = []; layers = [] }
 
 -- a derivation walked on a register: the bits of wires 0 and 1, and the phase
 abbrev pub bits_of : Result Derivation Refusal → (Bool × Bool) × ℕ
@@ -81,13 +81,13 @@ open_refused (Err e) takes v = []
 
 pub record Programs : Type 0 where
   -- Bell has 10 moves and layers 2 and 2
-  pub bell_walked : layers_of (derivation_of (bell 5)) ≡ record { answer = Ok (10, true); at_ends_lem = 0 ∷ 1 ∷ []; layers = 2 ∷ 2 ∷ [] }
+  pub bell_walked : layers_of (derivation_of (bell 5)) ≡ record { answer = Ok (10, true); wires_at_ends = 0 ∷ 1 ∷ []; layers = 2 ∷ 2 ∷ [] }
   -- a new holder has one wire and no move, and a sweep of 0 answers so
   pub new_swept : (wires [] (zero_row ∷ []) ≡ 1) × (moves [] (zero_row ∷ []) ≡ 0) × ((sweep_of all_codes layered [] (zero_row ∷ []) 0 (opened [] (zero_row ∷ []) fresh new_layers)).answer ≡ Ok (0, true))
   -- h on a free variable has one given wire and 5 moves
   pub hx_counted : counts_of (derivation_of hx) ≡ 1 ∷ 5 ∷ []
   -- the swap has 10 moves, and wire 1 comes to end 0
-  pub swap_walked : layers_of (derivation_of swap) ≡ record { answer = Ok (10, true); at_ends_lem = 1 ∷ 0 ∷ []; layers = 0 ∷ 0 ∷ [] }
+  pub swap_walked : layers_of (derivation_of swap) ≡ record { answer = Ok (10, true); wires_at_ends = 1 ∷ 0 ∷ []; layers = 0 ∷ 0 ∷ [] }
   -- cx on one with zero has 7 moves, and leaves bits 1 and 1 and phase 0
   pub cx_walked : (counts_of (derivation_of cx) ≡ 0 ∷ 7 ∷ []) × (bits_of (derivation_of cx) ≡ ((true, true), 0))
   -- empty input is refused

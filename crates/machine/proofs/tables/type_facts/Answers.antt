@@ -5,7 +5,7 @@ use Rattle.derivation.specs.Growth.{grown}
 use Rattle.derivation.specs.Trees.{trees}
 use Rattle.machine.specs.declared.tables.TypeFacts.{TypeFacts}
 use Rattle.machine.specs.Facts.{facts_of}
-use Rattle.machine.proofs.FactLaws.{left-known, right-known, some_right, few-both, within-right, facts-more}
+use Rattle.machine.proofs.FactLaws.{left_known, right_known, some_right, few-both, within-right, facts-more}
 use Rattle.machine.proofs.tables.type_facts.Goals as goal
 
 pub loop-entry-init : goal.loop-entry-init
@@ -13,10 +13,10 @@ unfolding trees grown
 loop-entry-init c = c.in_ok-push.ensures.items ∙ ap (λ l. l ++ (record { width = 1; signs = 1 } ∷ [])) c.new-facts.ensures.items
 
 pub index-left-requires : goal.index-left-requires
-index-left-requires c = omega (arith, c.loop-entry.facts.ok.0, left-known c.args.types.now c.requires c.loop-entry.entry-index c.loop-entry-test.true (vec_items c.loop-entry.facts) c.loop-entry.invariant)
+index-left-requires c = omega (arith, c.loop-entry.facts.ok.0, left_known c.args.types.now c.requires c.loop-entry.entry-index c.loop-entry-test.true (vec_items c.loop-entry.facts) c.loop-entry.invariant)
 
 pub index-right-requires : goal.index-right-requires
-index-right-requires c = omega (arith, c.loop-entry.facts.ok.0, right-known c.args.types.now c.requires c.loop-entry.entry-index c.loop-entry-test.true (vec_items c.loop-entry.facts) c.loop-entry.invariant)
+index-right-requires c = omega (arith, c.loop-entry.facts.ok.0, right_known c.args.types.now c.requires c.loop-entry.entry-index c.loop-entry-test.true (vec_items c.loop-entry.facts) c.loop-entry.invariant)
 
 pub joined-requires : goal.joined-requires
 joined-requires c =

@@ -53,7 +53,7 @@ pass-requires g c =
     let s = sits es rows a b run.moves run.reached run.kept c.args.w.0 c.requires.wire c.args.seat c.requires.seat in
     record {
       row = s.row_in;
-      arity = s.arity-few;
+      arity = s.arity_few;
       wires = s.below (full-so es rows a b run.moves run.reached run.kept c.args.w.0 c.requires.wire c.args.seat c.requires.seat c.index.result.now c.index.ensures c.if-waiting-seat.false);
       fit = books_fit es rows a b run.moves run.reached run.kept;
     }
