@@ -141,13 +141,15 @@ withFired>with_fired within-x>within_x within-y>within_y without-by>without_by w
 writeAnswer>write_answer xor-digit>xor_digit zeroRow>zero_row zeros-shallow>zeros_shallow
 """
 
-# words of one file alone, which are types there
+# words of one file alone: types there, or the library's own word
 FILES = {
     "theory/proofs/Saturation.antt": {"from": "From", "typed": "Typed", "kept": "KeptAt"},
     "theory/proofs/Gives.antt": {"from": "From"},
+    "theory/proofs/Starts.antt": {"and-true": "and-true"},
     # a crate that has the theory inside it
     "machine/proofs/Saturation.antt": {"from": "From", "typed": "Typed", "kept": "KeptAt"},
     "machine/proofs/Gives.antt": {"from": "From"},
+    "machine/proofs/Starts.antt": {"and-true": "and-true"},
 }
 
 WORD = re.compile(r"(?<![\w'])[A-Za-z_][\w']*(?:-[\w'*≡≤<+]+)*")
