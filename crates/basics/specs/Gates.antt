@@ -1,6 +1,8 @@
 -- The facts of each gate: its code, its word in OpenQASM 2.0 and its arity.
-use Rattle.std.specs.Prelude.{ℕ, cond, List, Some, None, codes, Option, ◌==◌}
+use Rattle.std.specs.Prelude.{◌≡◌, ℕ, cond, List, Some, None, codes, Option, Result, ◌==◌}
+use Rattle.std.specs.Option.{ok_or}
 use Rattle.basics.specs.declared.gate.Gate.{Gate}
+use Rattle.basics.specs.declared.gate.UnknownCode.{UnknownCode}
 use Rattle.basics.specs.declared.gate.Gate.TheVariants.{H, S, T, X, Z, Cx, Cz, Ccx}
 
 -- what is known of a gate
@@ -32,3 +34,7 @@ arity g = (facts g).arity
 -- the gate of a code, if there is one
 abbrev pub gate_of : ℕ → Option Gate
 gate_of c = cond (c == 1) (Some H) (cond (c == 2) (Some S) (cond (c == 3) (Some T) (cond (c == 4) (Some X) (cond (c == 5) (Some Z) (cond (c == 6) (Some Cx) (cond (c == 7) (Some Cz) (cond (c == 8) (Some Ccx) None)))))))
+
+-- a code is answered by its gate, or is handed back if there is none
+abbrev pub Decodes : ℕ → Result Gate UnknownCode → Type 0
+Decodes c r = r ≡ ok_or (gate_of c) (record { 0 = c })

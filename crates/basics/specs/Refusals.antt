@@ -1,5 +1,5 @@
 -- The number, the layer and the place of each refusal.
-use Rattle.std.specs.Prelude.{ℕ}
+use Rattle.std.specs.Prelude.{ℕ, List, ◌++◌, codes, decimal}
 use Rattle.basics.specs.declared.refusal.Layer.{Layer}
 use Rattle.basics.specs.declared.refusal.Layer.TheVariants.{Bytes, Types, Rows, Target, Run, Text}
 use Rattle.basics.specs.declared.refusal.Refusal.{Refusal}
@@ -120,3 +120,7 @@ place_of WireSets = 0
 place_of (ChannelEntry n) = n
 place_of (BufferTooShort n) = n
 place_of (OutOfMemory l) = 0
+
+-- a refusal as text: its number, its layer and its place
+abbrev pub refusal_words : Refusal → List ℕ
+refusal_words e = codes "refused " ++ (decimal (number_of e) ++ (codes " layer " ++ (decimal (layer_of e) ++ (codes " place " ++ decimal (place_of e)))))

@@ -1,9 +1,12 @@
 // The gates of the calculus: h, s, t, x and z on one wire, cx and cz on two, ccx on three.
-ghost use Rattle.std.specs.Prelude.{◌≡◌};
-ghost use Rattle.basics.specs.Gates.{arity as arity_of, code as code_of, gate_of, word as word_of};
+ghost use Rattle.std.specs.Prelude.{◌≡◌, Some};
+ghost use Rattle.basics.specs.Gates.{Decodes, arity as arity_of, code as code_of, word as word_of};
+
+use std::error::Error;
+use std::fmt;
 
 // The last seat of cx and ccx is flipped; the other seats are controls.
-#[derive(Clone, Copy, PartialEq, Eq)]
+#[derive(Clone, Copy, Debug, PartialEq, Eq)]
 pub enum Gate {
     H,
     S,
@@ -16,22 +19,7 @@ pub enum Gate {
 }
 
 impl Gate {
-    pub fn from_code(code: u8) -> Option<Gate>
-        ensures { result ≡ gate_of code }
-    {
-        match code {
-            1 => Some(Gate::H),
-            2 => Some(Gate::S),
-            3 => Some(Gate::T),
-            4 => Some(Gate::X),
-            5 => Some(Gate::Z),
-            6 => Some(Gate::Cx),
-            7 => Some(Gate::Cz),
-            8 => Some(Gate::Ccx),
-            _ => None,
-        }
-    }
-
+    // The number that stands for the gate in the byte format. A gate has more than one number, so this is no `From`.
     pub fn code(self) -> u8
         ensures { result ≡ code_of self }
     {
@@ -74,3 +62,43 @@ impl Gate {
         }
     }
 }
+
+// A number that is no gate's code.
+#[derive(Clone, Copy, Debug, PartialEq, Eq)]
+pub struct UnknownCode(pub u8);
+
+impl TryFrom<u8> for Gate {
+    type Error = UnknownCode;
+
+    ghost try_from_gives = { Decodes };
+
+    fn try_from(code: u8) -> Result<Gate, UnknownCode> {
+        match code {
+            1 => Ok(Gate::H),
+            2 => Ok(Gate::S),
+            3 => Ok(Gate::T),
+            4 => Ok(Gate::X),
+            5 => Ok(Gate::Z),
+            6 => Ok(Gate::Cx),
+            7 => Ok(Gate::Cz),
+            8 => Ok(Gate::Ccx),
+            _ => Err(UnknownCode(code)),
+        }
+    }
+}
+
+impl fmt::Display for Gate {
+    ghost output = { λ gate. Some (word_of gate) };
+
+    fn fmt<W: fmt::Write>(&self, f: &mut fmt::Formatter<W>) -> fmt::Result {
+        f.write_str(self.word())
+    }
+}
+
+impl fmt::Display for UnknownCode {
+    fn fmt<W: fmt::Write>(&self, f: &mut fmt::Formatter<W>) -> fmt::Result {
+        write!(f, "no gate has code {}", self.0)
+    }
+}
+
+impl Error for UnknownCode {}

@@ -1,6 +1,7 @@
-// What all layers share: the gates, the refusals, and the numbers that name rows, types, wires and ends.
+// What all layers share: the gates, the refusals, the numbers that name rows, types, wires and ends, and sets of such numbers.
 #![tactic(auto)]
 
 pub mod gate;
 pub mod numbers;
 pub mod refusal;
+pub mod sets;

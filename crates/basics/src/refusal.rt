@@ -1,15 +1,17 @@
 // Refusals: what a call answers instead of its result. Each has a number, a layer and a place.
-ghost use Rattle.std.specs.Prelude.{◌≡◌};
-ghost use Rattle.basics.specs.Refusals.{layer_number, number_of, layer_of, place_of};
+ghost use Rattle.std.specs.Prelude.{◌≡◌, Some};
+ghost use Rattle.basics.specs.Refusals.{layer_number, number_of, layer_of, place_of, refusal_words};
 ghost use Rattle.basics.specs.declared.refusal.Layer.TheVariants.{Bytes};
 ghost use Rattle.basics.specs.declared.refusal.Refusal.TheVariants.{OutOfMemory};
 
 use crate::gate::Gate;
 use crate::numbers::{RowId, TypeId, Wire};
 use std::alloc::{AllocError, AllocFailed};
+use std::error::Error;
+use std::fmt;
 
 // The layers, by which a refusal says where a fault was found.
-#[derive(Clone, Copy, PartialEq, Eq)]
+#[derive(Clone, Copy, Debug, PartialEq, Eq)]
 pub enum Layer {
     Bytes,
     Types,
@@ -20,7 +22,7 @@ pub enum Layer {
 }
 
 // One enum serves all layers, so that a fault keeps its number, layer and place on its way up.
-#[derive(Clone, Copy, PartialEq, Eq)]
+#[derive(Clone, Copy, Debug, PartialEq, Eq)]
 pub enum Refusal {
     // fewer than five bytes: how many there are
     TooShort(usize),
@@ -91,7 +93,7 @@ pub enum Refusal {
 }
 
 impl Layer {
-    fn number(self) -> u8
+    pub fn number(self) -> u8
         ensures { result ≡ layer_number self }
     {
         match self {
@@ -143,8 +145,8 @@ impl Refusal {
         }
     }
 
-    pub fn layer(self) -> u8
-        ensures { result ≡ layer_of self }
+    pub fn layer(self) -> Layer
+        ensures { layer_number result ≡ layer_of self }
     {
         match self {
             Refusal::TooShort(_)
@@ -155,8 +157,9 @@ impl Refusal {
             | Refusal::RecordBounds(_)
             | Refusal::UnknownKind(_)
             | Refusal::RecordLength(_)
-            | Refusal::Trailing(_) => 1,
-            Refusal::PartNotLower(_) | Refusal::RepeatedType(_) | Refusal::TooManyAtoms(_) => 2,
+            | Refusal::Trailing(_) => Layer::Bytes,
+            Refusal::PartNotLower(_) | Refusal::RepeatedType(_) | Refusal::TooManyAtoms(_) =>
+                Layer::Types,
             Refusal::NoSuchType(_)
             | Refusal::PremiseNotLower(_)
             | Refusal::PremiseTaken(_)
@@ -164,20 +167,20 @@ impl Refusal {
             | Refusal::TypeMismatch(_)
             | Refusal::NoSuchGate(_)
             | Refusal::UnusedRow(_)
-            | Refusal::TooManyWires(_) => 3,
+            | Refusal::TooManyWires(_) => Layer::Rows,
             Refusal::WireMisuse(_)
             | Refusal::AtCapacity(_)
             | Refusal::NotTaken(_)
             | Refusal::WireSets
-            | Refusal::ChannelEntry(_) => 4,
+            | Refusal::ChannelEntry(_) => Layer::Target,
             Refusal::TooNarrow(_)
             | Refusal::TooSmall(_)
             | Refusal::GateNotTaken(_)
             | Refusal::NoSuchWire(_)
             | Refusal::AtHome(_)
-            | Refusal::SeatEmpty(_) => 5,
-            Refusal::BufferTooShort(_) => 6,
-            Refusal::OutOfMemory(layer) => layer.number(),
+            | Refusal::SeatEmpty(_) => Layer::Run,
+            Refusal::BufferTooShort(_) => Layer::Text,
+            Refusal::OutOfMemory(layer) => layer,
         }
     }
 
@@ -231,3 +234,16 @@ impl<T: Drop> From<AllocFailed<T>> for Refusal {
         Refusal::OutOfMemory(Layer::Bytes)
     }
 }
+
+impl fmt::Display for Refusal {
+    ghost output = { λ refusal. Some (refusal_words refusal) };
+
+    fn fmt<W: fmt::Write>(&self, f: &mut fmt::Formatter<W>) -> fmt::Result {
+        let number = self.number();
+        let layer = self.layer().number();
+        let place = self.place();
+        write!(f, "refused {number} layer {layer} place {place}")
+    }
+}
+
+impl Error for Refusal {}

@@ -1,6 +1,5 @@
 pub mod GrowthLaws
 pub mod FaultLaws
-pub mod SetLaws
 pub mod WeightLaws
 pub mod PlaceLaws
 pub mod TypeChecks

@@ -1,10 +1,10 @@
 -- Laws of sets as masks.
-use Rattle.std.proofs.Common.{◌≡◌, ℕ, zero, suc, ◌+◌, ◌-◌, ◌/◌, ◌%◌, ◌^◌, ◌<◌, ◌≤◌, false, not, ◌&&◌, ◌||◌, eqb, sym, refl, ap, ◌∙◌, ⊎_elim, lt_of_lt_of_le, one-mul, arith, pow_mono}
-use native.Mathlib.Nat.{mul-mod_left, div-eq_of_lt, zero-div}
-use lib.Bits.{bit_and, bit_or, bit_xor, and_comm, and_shifted, xor_zero_r, or_shr, or_mod, and_shr, and_mod, xor_shr, xor_mod}
-use Rattle.std.proofs.lemmas.Nat.{pow-add, pow_below, shl-shr, mod_below}
+use Rattle.std.proofs.Common.{◌≡◌, ℕ, zero, suc, ◌+◌, ◌-◌, ◌*◌, ◌/◌, ◌%◌, ◌^◌, ◌<◌, ◌≤◌, false, not, ◌&&◌, ◌||◌, eqb, sym, refl, ap, ◌∙◌, ⊎_elim, lt_of_lt_of_le, one-mul, arith, pow_mono}
+use native.Mathlib.Nat.{mul-mod_left, div-eq_of_lt, zero-div, mod-eq_of_lt}
+use lib.Bits.{and_mask, bit_and, bit_or, bit_xor, and_comm, and_shifted, xor_zero_r, or_shr, or_mod, and_shr, and_mod, xor_shr, xor_mod}
+use Rattle.std.proofs.lemmas.Nat.{pow-add, pow_below, shl-shr, mod_below, one_shl, or_lt, xor_lt, and_le_l}
 use Rattle.std.proofs.lemmas.Bool.{cases_order, cases_eq, eq-eqb, ne_eqb}
-use Rattle.derivation.specs.Sets.{has, only, union, without}
+use Rattle.basics.specs.Sets.{has, only, union, without}
 
 -- bit x of a mask
 abbrev bit : ℕ → ℕ → ℕ
@@ -74,18 +74,43 @@ pub has_none : (z : ℕ) → has 0 z ≡ false
 unfolding has
 has_none z = ap (λ n. eqb (n % 2) 1) (zero-div (2 ^ z))
 
--- a mask of 128 bits has no number from 128 on
-below_power : (m x : ℕ) → m < 2 ^ 128 → 128 ≤ x → m < 2 ^ x
-below_power m x h l = lt_of_lt_of_le h (pow_mono l)
+-- a mask of k bits has no number from k on
+module _ (k m x : ℕ) (fits : m < 2 ^ k) (past : k ≤ x) where
+  pub below_power : m < 2 ^ x
+  below_power = lt_of_lt_of_le fits (pow_mono past)
 
-pub has_past : (m x : ℕ) → m < 2 ^ 128 → 128 ≤ x → has m x ≡ false
+  pub has_past : has m x ≡ false
+  unfolding has
+  has_past = ap (λ n. eqb (n % 2) 1) (div-eq_of_lt below_power)
+
+  pub without_past : without m x ≡ m
+  unfolding without
+  without_past =
+      ap (bit_xor m) (and_comm m (2 ^ x) ∙ ap (λ n. bit_and n m) (sym (one-mul (2 ^ x))) ∙ and_shifted 1 x m below_power) ∙ xor_zero_r m
+
+-- a shift and a mask read one bit
+pub has_bit : (m x : ℕ) → eqb (bit_and (m / 2 ^ x) 1) 1 ≡ has m x
 unfolding has
-has_past m x h l = ap (λ n. eqb (n % 2) 1) (div-eq_of_lt (below_power m x h l))
+has_bit m x = ap (λ n. eqb n 1) (and_mask (m / 2 ^ x) 1)
 
-pub without_past : (m x : ℕ) → m < 2 ^ 128 → 128 ≤ x → without m x ≡ m
-unfolding without
-without_past m x h l =
-    ap (bit_xor m) (and_comm m (2 ^ x) ∙ ap (λ n. bit_and n m) (sym (one-mul (2 ^ x))) ∙ and_shifted 1 x m (below_power m x h l)) ∙ xor_zero_r m
+-- what is left below k of a mask of k bits, one number more, one number less, or another such mask
+module _ (k m x : ℕ) (fits : m < 2 ^ k) (within : x < k) (few : k ≤ 128) where
+  single_bit : (1 * 2 ^ x) % 2 ^ 128 ≡ 2 ^ x
+  single_bit = one_shl x 128 (omega arith)
+
+  pub with_bit : bit_or m ((1 * 2 ^ x) % 2 ^ 128) % 2 ^ k ≡ union m (only x)
+  unfolding union only
+  with_bit = ap (λ n. bit_or m n % 2 ^ k) single_bit ∙ mod-eq_of_lt (or_lt k m (2 ^ x) fits (pow_below x k within))
+
+  pub without_bit : bit_xor m (bit_and m ((1 * 2 ^ x) % 2 ^ 128)) % 2 ^ k ≡ without m x
+  unfolding without
+  without_bit =
+      ap (λ n. bit_xor m (bit_and m n) % 2 ^ k) single_bit
+      ∙ mod-eq_of_lt (xor_lt k m (bit_and m (2 ^ x)) fits (omega (arith, fits, and_le_l m (2 ^ x))))
+
+pub union_fits : (k a b : ℕ) → a < 2 ^ k → b < 2 ^ k → bit_or a b % 2 ^ k ≡ union a b
+unfolding union
+union_fits k a b p q = mod-eq_of_lt (or_lt k a b p q)
 
 pub union_none : (m : ℕ) → union 0 m ≡ m
 unfolding union
