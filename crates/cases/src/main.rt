@@ -2,6 +2,7 @@
 // them, with a semicolon for each line end but the last.
 #![tactic(auto)]
 
+use hex::FromHexError;
 use std::alloc::{AllocError, Global};
 use std::io;
 use text::forecast::forecast;
@@ -9,52 +10,37 @@ use text::forecast::forecast;
 // The longest input that the programs look at.
 const LIMIT: usize = 2048;
 
-fn digit(b: u8) -> u8 {
-    match b {
-        b'0'..=b'9' => b - b'0',
-        b'A'..=b'F' => b - b'A' + 10,
-        _ => 0,
+// The bytes that hexadecimal digits stand for, if they are digits.
+fn decoded(heap: Global, digits: &str) -> Result<Option<Vec<u8>>, AllocError> {
+    if digits == "-" {
+        return Ok(Some(Vec::new(heap)));
     }
-}
-
-// The bytes that hexadecimal digits stand for.
-fn decoded(heap: Global, hex: &[u8]) -> Result<Vec<u8>, AllocError> {
-    let mut bytes = Vec::new(heap);
-    for i in 0..hex.len() / 2 {
-        let high = digit(hex[2 * i]) & 15;
-        let low = digit(hex[2 * i + 1]) & 15;
-        bytes.push(high * 16 + low)?;
+    match hex::decode(heap, digits.as_bytes()) {
+        Ok(bytes) => Ok(Some(bytes)),
+        Err(FromHexError::OutOfMemory) => Err(AllocError),
+        Err(_) => Ok(None),
     }
-    Ok(bytes)
 }
 
 // Whether a text is as expected, where a semicolon stands for a line end.
-fn agrees(text: &[u8], expected: &[u8]) -> bool {
-    if text.len() != expected.len() + 1 || text[expected.len()] != b'\n' {
+fn agrees(text: &str, expected: &str) -> bool {
+    let Some(lines) = text.strip_suffix("\n") else {
         return false;
-    }
-    for (i, e) in expected.iter().enumerate() {
-        let t = text[i];
-        if t != *e && !(t == b'\n' && *e == b';') {
-            return false;
-        }
-    }
-    true
+    };
+    lines.split('\n').eq(expected.split(';'))
 }
 
 // Whether the bytes before the tab of a line are answered as the text behind it says.
-fn holds(heap: Global, line: &[u8]) -> Result<bool, AllocError> {
-    let mut tab = 0;
-    while tab < line.len() && line[tab] != b'\t' {
-        tab += 1;
-    }
-    if tab >= line.len() {
+fn holds(heap: Global, line: &str) -> Result<bool, AllocError> {
+    let Some((digits, expected)) = line.split_once('\t') else {
         return Ok(false);
-    }
-    let bytes = decoded(heap, &line[0..tab])?;
+    };
+    let Some(bytes) = decoded(heap, digits)? else {
+        return Ok(false);
+    };
     let seen = bytes.len().min(LIMIT);
-    let text = forecast(heap, &bytes.as_slice()[0..seen])?;
-    Ok(agrees(text.as_bytes(), &line[tab + 1..]))
+    let text = forecast(heap, &bytes.as_slice()[..seen])?;
+    Ok(agrees(text.as_str(), expected))
 }
 
 fn main(rt: HostRuntime) -> io::Result<()> {
@@ -63,7 +49,7 @@ fn main(rt: HostRuntime) -> io::Result<()> {
     let mut differ = 0u32;
     for line in rt.lines(heap) {
         let line = line?;
-        if holds(heap, line.as_bytes())? {
+        if holds(heap, line.as_str())? {
             agree = agree.saturating_add(1);
         } else {
             differ = differ.saturating_add(1);

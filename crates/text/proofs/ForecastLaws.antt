@@ -1,6 +1,5 @@
--- Lines of ends, one after the other, and places that are followed step by step.
-use Rattle.std.proofs.Common.{◌≡◌, ℕ, suc, ◌+◌, ◌-◌, ◌<◌, true, cond, List, [], ◌∷◌, ◌++◌, map, length, get_or, take, Some, None, codes, decimal, Option, sym, ap, ◌∙◌, ap₂, append_assoc, add-zero, arith}
-use Rattle.std.proofs.lemmas.List.{length-take, take_more}
+-- Places that are followed step by step.
+use Rattle.std.proofs.Common.{◌≡◌, ℕ, suc, ◌+◌, ◌-◌, ◌<◌, true, cond, List, map, length, get_or, Some, None, Option, sym, ap, ◌∙◌, arith}
 use Rattle.std.proofs.lemmas.Bool.{cond-true}
 use Rattle.derivation.specs.declared.types.TypeEntry.{TypeEntry}
 use Rattle.derivation.specs.declared.rows.Row.{Row}
@@ -13,28 +12,6 @@ use Rattle.theory.specs.Tokens.{wire_at}
 use Rattle.theory.specs.Finals.{end_wires, finals, followed}
 use Rattle.theory.specs.Theory.{Promised}
 use Rattle.theory.proofs.Assembled.{theory}
-use Rattle.text.specs.Forecast.{end_lines}
-
-end_lines-push : (k : ℕ) (ws : List ℕ) (w : ℕ) → end_lines k (ws ++ w ∷ []) ≡ end_lines k ws ++ end_lines (k + length ws) (w ∷ [])
-end_lines-push k [] w = ap (λ (n : ℕ). end_lines n (w ∷ [])) (sym (add-zero k))
-end_lines-push k (v ∷ ws) w =
-    let step : suc k + length ws ≡ k + suc (length ws) = omega arith in
-    ap (λ (l : List ℕ). codes "end " ++ (decimal k ++ (codes " " ++ (decimal v ++ (codes "\n" ++ l)))))
-    (end_lines-push (suc k) ws w ∙ ap (λ (n : ℕ). end_lines (suc k) ws ++ end_lines n (w ∷ [])) step)
-    ∙ sym (simp append_assoc)
-
-end_lines-take : (ws : List ℕ) (i : ℕ) → i < length ws → end_lines 0 (take (i + 1) ws) ≡ end_lines 0 (take i ws) ++ end_lines i (get_or ws i 0 ∷ [])
-end_lines-take ws i h =
-    let here : 0 + length (take i ws) ≡ i = omega (arith, length-take i ws) in
-    ap (end_lines 0) (take_more ws i 0 h) ∙ end_lines-push 0 (take i ws) (get_or ws i 0)
-    ∙ ap (λ (n : ℕ). end_lines 0 (take i ws) ++ end_lines n (get_or ws i 0 ∷ [])) here
-
--- one line more, behind what is written
-pub end_lines-more : (before : List ℕ) (ws : List ℕ) (i : ℕ) {so_far line : List ℕ} → i < length ws → so_far ≡ before ++ end_lines 0 (take i ws) → line ≡ end_lines i (get_or ws i 0 ∷ [])
-    → so_far ++ line ≡ before ++ end_lines 0 (take (i + 1) ws)
-end_lines-more before ws i h e l =
-    ap₂ (λ (x y : List ℕ). x ++ y) e l ∙ append_assoc before (end_lines 0 (take i ws)) (end_lines i (get_or ws i 0 ∷ []))
-    ∙ ap (λ (x : List ℕ). before ++ x) (sym (end_lines-take ws i h))
 
 module _ (es : List TypeEntry) (rows : List Row) where
   -- one step of following, with n - i left

@@ -1,2 +1,2 @@
-pub mod BookingLaws
 pub mod ForecastLaws
+pub mod LineLaws

@@ -1,2 +1,3 @@
 pub mod Booking
 pub mod Forecast
+pub mod Lines

@@ -1,5 +1,5 @@
 // What is known of a derivation before anything moves, as text.
-ghost use Rattle.std.specs.Prelude.{◌≡◌, true, [], ◌∷◌, ◌++◌, map, IfOk, string_bytes, OnOk};
+ghost use Rattle.std.specs.Prelude.{◌≡◌, true, ◌++◌, map, IfOk, string_bytes, OnOk};
 ghost use Rattle.theory.specs.Finals.{end_wires, followed};
 ghost use Rattle.theory.specs.Ports.{is_place, starts as starts_of};
 ghost use Rattle.theory.specs.Theory.{Promised};
@@ -7,8 +7,7 @@ ghost use Rattle.theory.specs.Tokens.{wire_at};
 ghost use Rattle.text.specs.Booking.{derivation_text};
 ghost use Rattle.text.specs.Forecast.{end_lines, forecast_text};
 
-use crate::booking::{derivation_text, refusal_line};
-use basics::refusal::Refusal;
+use crate::booking::{derivation_text, held, refusal_line};
 use derivation::holder::Holder;
 use derivation::rows::Place;
 use machine::machine::{Machine, position};
@@ -40,25 +39,13 @@ fn last_places(heap: Global, machine: &Machine, times: u32) -> Result<Vec<Place>
     Ok(places)
 }
 
-// The line of an end: its number and the wire that will stand there.
-fn end_line(heap: Global, end: usize, wire: usize) -> Result<String, AllocError>
-    ensures { IfOk result (λ s. string_bytes s ≡ end_lines end (wire ∷ [])) }
-{
-    format!(in heap; "end {end} {wire}\n")
-}
-
-// Appends a line for each end.
-fn push_end_lines(
-    heap: Global,
-    text: &mut String,
-    ends: &[Place],
-    places: &[Place],
-) -> Result<(), AllocError>
+// Appends a line for each end: its number and the wire that will stand there.
+fn push_end_lines(text: &mut String, ends: &[Place], places: &[Place]) -> Result<(), AllocError>
     ensures { OnOk result (string_bytes text.new ≡ string_bytes text.old ++ end_lines 0 (map (wire_at places.now) ends.now)) }
 {
     for (end, place) in ends.iter().enumerate() {
-        let line = end_line(heap, end, position(places, *place))?;
-        text.push_str(line.as_str())?;
+        let wire = position(places, *place);
+        write!(text, "end {end} {wire}\n")?;
     }
     Ok(())
 }
@@ -68,11 +55,9 @@ fn held_text(heap: Global, holder: &Holder) -> Result<String, AllocError>
     ensures { IfOk result (λ s. string_bytes s ≡ derivation_text holder.now.types.items holder.now.rows.items ++ end_lines 0 (end_wires holder.now.types.items holder.now.rows.items)) }
 {
     let mut text = derivation_text(heap, holder)?;
-    let Ok(machine) = Machine::new(heap, holder) else {
-        return Err(AllocError);
-    };
+    let machine = Machine::new(heap, holder).map_err(|_| AllocError)?;
     let places = last_places(heap, &machine, holder.moves())?;
-    push_end_lines(heap, &mut text, machine.ends(), places.as_slice())?;
+    push_end_lines(&mut text, machine.ends(), places.as_slice())?;
     Ok(text)
 }
 
@@ -82,12 +67,8 @@ pub fn forecast(heap: Global, bytes: &[u8]) -> Result<String, AllocError>
     ensures text { IfOk result (λ s. string_bytes s ≡ forecast_text bytes.now) }
     ensures theory { Promised bytes.now }
 {
-    let Ok(mut holder) = Holder::new(heap) else {
-        return Err(AllocError);
-    };
-    match holder.read(heap, bytes) {
-        Ok(()) => held_text(heap, &holder),
-        Err(Refusal::OutOfMemory(_)) => Err(AllocError),
+    match held(heap, bytes)? {
+        Ok(holder) => held_text(heap, &holder),
         Err(refusal) => refusal_line(heap, refusal),
     }
 }

@@ -2,17 +2,16 @@
 use Rattle.std.proofs.Common.{◌++◌, string_bytes, ap, ◌∙◌}
 use Rattle.std.proofs.lemmas.List.{take_all}
 use Rattle.derivation.specs.declared.rows.Start.TheVariants.{Given}
-use Rattle.text.specs.Booking.{start_lines}
-use Rattle.text.proofs.BookingLaws.{start_lines-more}
+use Rattle.text.specs.Booking.{start_line, start_lines}
+use Rattle.text.proofs.LineLaws.{numbered-more}
 use Rattle.text.proofs.booking.push_start_lines.Goals as goal
 
 pub loop-wire-preserved : goal.loop-wire-preserved
 loop-wire-preserved c =
-    c.in_ok-push_str.ensures.bytes
-    ∙ start_lines-more (string_bytes c.args.text.now) c.args.starts.now c.loop-wire.wire Given c.loop-wire-test.true c.loop-wire.invariant
-    (c.as_str.ensures.value ∙ c.in_ok-line.ensures)
+    rw c.word-word.ensures at c.in_ok-write.ensures.bytes
+    ∙ numbered-more start_line (string_bytes c.args.text.now) c.args.starts.now c.loop-wire.wire-counter Given c.loop-wire-test.true c.loop-wire.invariant
 
 pub returns : goal.returns
 returns c =
     c.loop-wire.invariant
-    ∙ ap (λ l. string_bytes c.args.text.now ++ start_lines 0 l) (take_all c.loop-wire.wire c.args.starts.now c.loop-wire-test.false)
+    ∙ ap (λ l. string_bytes c.args.text.now ++ start_lines 0 l) (take_all c.loop-wire.wire-counter c.args.starts.now c.loop-wire-test.false)

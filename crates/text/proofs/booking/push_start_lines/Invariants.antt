@@ -4,4 +4,4 @@ use Rattle.text.proofs.booking.push_start_lines.Given as goal
 
 -- the lines of the wires so far are appended
 abbrev pub invariant-loop-wire : goal.invariant-loop-wire
-invariant-loop-wire l = string_bytes l.text ≡ string_bytes l.initial.text ++ start_lines 0 (take l.wire l.starts)
+invariant-loop-wire l = string_bytes l.text ≡ string_bytes l.initial.text ++ start_lines 0 (take l.wire-counter l.starts)
