@@ -13,7 +13,7 @@ pub struct Atom(pub u8);
 pub struct RowId(pub u8);
 
 // The number of a wire. Each wire carries one token.
-#[derive(Clone, Copy, Debug, PartialEq, Eq)]
+#[derive(Clone, Copy, Debug, Default, PartialEq, Eq)]
 pub struct Wire(pub u8);
 
 // The number of an end: a positive place of the last row, where a token comes to rest.

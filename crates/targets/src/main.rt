@@ -5,6 +5,7 @@
 // A step is begin with the sets of used wires, given and ones as numbers, or a gate with its wires.
 #![tactic(auto)]
 
+use arrayvec::ArrayVec;
 use basics::gate::Gate;
 use basics::numbers::Wire;
 use basics::refusal::Refusal;
@@ -14,18 +15,19 @@ use gate_list::{Applied, GateList};
 use layers::Layers;
 use register::Register;
 use std::alloc::{AllocError, Global};
-use std::io;
+use std::{array, io};
 use target::interface::Target;
 
-fn gate_of(word: &str) -> Option<Gate> {
-    for code in 1..9u8 {
-        let gate = Gate::from_code(code)?;
-        if gate.word() == word {
-            return Some(gate);
-        }
-    }
-    None
-}
+const GATES: [Gate; 8] = [
+    Gate::H,
+    Gate::S,
+    Gate::T,
+    Gate::X,
+    Gate::Z,
+    Gate::Cx,
+    Gate::Cz,
+    Gate::Ccx,
+];
 
 // Begins a target, if the sets can be read.
 fn begin<T: Target>(target: &mut T, sets: &str) -> Option<Result<(), Refusal>> {
@@ -39,18 +41,14 @@ fn begin<T: Target>(target: &mut T, sets: &str) -> Option<Result<(), Refusal>> {
 
 // Applies a gate, if it can be read and has at most four wires.
 fn apply<T: Target>(target: &mut T, step: &str) -> Option<Result<(), Refusal>> {
-    let mut wires = [Wire(0); 4];
-    let mut n = 0;
     let mut words = step.split_whitespace();
-    let gate = gate_of(words.next()?)?;
+    let word = words.next()?;
+    let gate = GATES.into_iter().find(|gate| gate.word() == word)?;
+    let mut wires = ArrayVec::<Wire, 4>::new();
     for word in words {
-        if n >= wires.len() {
-            return None;
-        }
-        wires[n] = Wire(word.parse::<u8>().ok()?);
-        n += 1;
+        wires.try_push(Wire(word.parse::<u8>().ok()?)).ok()?;
     }
-    Some(target.apply(gate, &wires[0..n]))
+    Some(target.apply(gate, wires.as_slice()))
 }
 
 // Plays the steps, with a line for each that is refused.
@@ -63,182 +61,172 @@ fn play<T: Target>(heap: Global, target: &mut T, steps: &str) -> Result<String, 
         };
         match answer {
             Some(Ok(())) => {}
-            Some(Err(e)) => {
-                let line = refusal_line(heap, step, e)?;
-                text.push_str(line.as_str())?;
-            }
+            Some(Err(refusal)) => write!(text, "{step}: {refusal}\n")?,
             None => text.push_str("a step that cannot be read\n")?,
         }
     }
     Ok(text)
 }
 
-fn refusal_line(heap: Global, step: &str, refusal: Refusal) -> Result<String, AllocError> {
-    let number = refusal.number();
-    let layer = refusal.layer();
-    let place = refusal.place();
-    format!(in heap; "{step}: refused {number} layer {layer} place {place}\n")
-}
-
 // The number of each wire.
-fn layers_line(heap: Global, layers: &mut Layers) -> Result<String, AllocError> {
-    let mut text = format!(in heap; "layers")?;
-    for w in 0..32u8 {
+fn show_layers(text: &mut String, mut layers: Layers) -> Result<(), AllocError> {
+    text.push_str("layers")?;
+    for w in 0..32 {
         if let Some(depth) = layers.depth(Wire(w)) {
-            let part = format!(in heap; " {depth}")?;
-            text.push_str(part.as_str())?;
+            write!(text, " {depth}")?;
         }
     }
-    text.push_str("\n")?;
-    Ok(text)
+    text.push_str("\n")
 }
 
 // The bit of each wire, and the phase.
-fn register_line(heap: Global, register: &mut Register) -> Result<String, AllocError> {
-    let mut text = format!(in heap; "bits ")?;
-    for w in 0..16u8 {
-        let bit = if register.bit(Wire(w)) == Some(true) {
-            "1"
-        } else {
-            "0"
-        };
-        text.push_str(bit)?;
+fn show_register(text: &mut String, mut register: Register) -> Result<(), AllocError> {
+    text.push_str("bits ")?;
+    for w in 0..16 {
+        let one = register.bit(Wire(w)) == Some(true);
+        text.push_str(if one { "1" } else { "0" })?;
     }
     let phase = register.phase();
-    let part = format!(in heap; " phase {phase}\n")?;
-    text.push_str(part.as_str())?;
-    Ok(text)
+    write!(text, " phase {phase}\n")
 }
 
-// Whether a wire is at a seat of a record's gate.
-fn names(record: &Applied, w: u8) -> bool {
-    let [a, b, c] = record.wires;
-    let seats = record.gate.arity();
-    a.0 == w || (seats > 1 && b.0 == w) || (seats > 2 && c.0 == w)
-}
-
-// A gate with its wires, in seat order.
-fn record_text(heap: Global, record: &Applied) -> Result<String, AllocError> {
-    let word = record.gate.word();
-    let [Wire(a), Wire(b), Wire(c)] = record.wires;
+// The wires at the seats of a record's gate.
+fn seats(record: &Applied) -> &[Wire] {
     match record.gate.arity() {
-        1 => format!(in heap; ", {word} {a}"),
-        2 => format!(in heap; ", {word} {a} {b}"),
-        _ => format!(in heap; ", {word} {a} {b} {c}"),
+        1 => &record.wires[..1],
+        2 => &record.wires[..2],
+        _ => &record.wires,
     }
 }
 
-// The gates that a wire met, in order; none for a wire that met none.
-fn wire_line(heap: Global, list: &mut GateList, w: u8) -> Result<String, AllocError> {
-    let mut text = String::new(heap);
+// The gates that a wire met, each with its wires in seat order; none for a wire that met none.
+fn show_wire(
+    heap: Global,
+    text: &mut String,
+    list: &mut GateList,
+    w: Wire,
+) -> Result<(), AllocError> {
+    let mut gates = String::new(heap);
     for i in 0..list.count() as usize {
         if let Some(record) = list.record(i) {
-            if names(&record, w) {
-                let part = record_text(heap, &record)?;
-                text.push_str(part.as_str())?;
+            if seats(&record).contains(&w) {
+                show_record(&mut gates, &record)?;
             }
         }
     }
-    match text.as_str().strip_prefix(", ") {
-        Some(gates) => format!(in heap; "wire {w}: {gates}\n"),
-        None => Ok(String::new(heap)),
+    if let Some(gates) = gates.as_str().strip_prefix(", ") {
+        let w = w.0;
+        write!(text, "wire {w}: {gates}\n")?;
     }
+    Ok(())
 }
 
-fn list_lines(heap: Global, list: &mut GateList) -> Result<String, AllocError> {
-    let mut text = String::new(heap);
-    for w in 0..32u8 {
-        let line = wire_line(heap, list, w)?;
-        text.push_str(line.as_str())?;
+fn show_record(text: &mut String, record: &Applied) -> Result<(), AllocError> {
+    let gate = record.gate;
+    write!(text, ", {gate}")?;
+    for seat in seats(record) {
+        let w = seat.0;
+        write!(text, " {w}")?;
     }
+    Ok(())
+}
+
+fn show_list(heap: Global, text: &mut String, mut list: GateList) -> Result<(), AllocError> {
+    for w in 0..32 {
+        show_wire(heap, text, &mut list, Wire(w))?;
+    }
+    Ok(())
+}
+
+// A list with room for six gates.
+fn new_list(heap: Global) -> Result<GateList, AllocError> {
+    let record = Applied {
+        gate: Gate::H,
+        wires: [Wire(0); 3],
+    };
+    Ok(GateList::new(vec![in heap; record; 6]?))
+}
+
+// A register that sets wire 1 to 1 if it is given.
+fn new_register() -> Register {
+    Register::new(0b10)
+}
+
+// What is refused when steps are played on a target, and what it shows then.
+fn played<T: Target + Drop, F: FnOnce(&mut String, T) -> Result<(), AllocError>>(
+    heap: Global,
+    mut target: T,
+    steps: &str,
+    show: F,
+) -> Result<String, AllocError>
+    requires { F.IsAlwaysCallable show }
+{
+    let mut text = play(heap, &mut target, steps)?;
+    show(&mut text, target)?;
     Ok(text)
 }
 
-// A list with room for so many gates.
-fn list_of(heap: Global, n: usize) -> Result<GateList, AllocError> {
-    let mut records = Vec::new(heap);
-    for _ in 0..n {
-        records.push(Applied {
-            gate: Gate::H,
-            wires: [Wire(0); 3],
-        })?;
-    }
-    Ok(GateList::new(records))
-}
-
-// What is refused and held when steps are played on a new target of a kind. The lists have room for six gates, and the
-// register sets wire 1 to 1 if it is given.
+// The same on a new target of a kind. Those under a map are a list or, under two maps, layers, all reversed, or a register by
+// a table of its own.
 fn outcome(heap: Global, kind: &str, steps: &str) -> Result<String, AllocError> {
-    if kind == "layers" {
-        let mut layers = Layers::new();
-        let refusals = play(heap, &mut layers, steps)?;
-        return joined(refusals, layers_line(heap, &mut layers)?);
+    match kind {
+        "layers" => played(heap, Layers::new(), steps, show_layers),
+        "register" => played(heap, new_register(), steps, show_register),
+        "list" => played(
+            heap,
+            new_list(heap)?,
+            steps,
+            |text, list| show_list(heap, text, list),
+        ),
+        "list reversed" => {
+            let map = ChannelMap::new(Channels::reversed(), new_list(heap)?);
+            played(
+                heap,
+                map,
+                steps,
+                |text, map| show_list(heap, text, map.into_beneath()),
+            )
+        }
+        "layers reversed twice" => {
+            let inner = ChannelMap::new(Channels::reversed(), Layers::new());
+            let outer = ChannelMap::new(Channels::reversed(), inner);
+            played(
+                heap,
+                outer,
+                steps,
+                |text, map| show_layers(text, map.into_beneath().into_beneath()),
+            )
+        }
+        _ => match kind.strip_prefix("register by ") {
+            Some(numbers) => mapped_outcome(heap, numbers, steps),
+            None => format!(in heap; "no such kind\n"),
+        },
     }
-    if kind == "register" {
-        let mut register = Register::new(0b10);
-        let refusals = play(heap, &mut register, steps)?;
-        return joined(refusals, register_line(heap, &mut register)?);
-    }
-    if kind == "list" {
-        let mut list = list_of(heap, 6)?;
-        let refusals = play(heap, &mut list, steps)?;
-        return joined(refusals, list_lines(heap, &mut list)?);
-    }
-    mapped_outcome(heap, kind, steps)
 }
 
-// The same for a target under a map: a list or, under two maps, layers, all reversed, or a register by a table of its own.
-fn mapped_outcome(heap: Global, kind: &str, steps: &str) -> Result<String, AllocError> {
-    if kind == "list reversed" {
-        let mut map = ChannelMap::new(Channels::reversed(), list_of(heap, 6)?);
-        let refusals = play(heap, &mut map, steps)?;
-        return joined(refusals, list_lines(heap, &mut map.into_beneath())?);
+// The same on a register under a map with a table.
+fn mapped_outcome(heap: Global, numbers: &str, steps: &str) -> Result<String, AllocError> {
+    match Channels::new(table_of(numbers)) {
+        Ok(channels) => {
+            let map = ChannelMap::new(channels, new_register());
+            played(
+                heap,
+                map,
+                steps,
+                |text, map| show_register(text, map.into_beneath()),
+            )
+        }
+        Err(refusal) => format!(in heap; "the table: {refusal}\n"),
     }
-    if kind == "layers reversed twice" {
-        let inner = ChannelMap::new(Channels::reversed(), Layers::new());
-        let mut outer = ChannelMap::new(Channels::reversed(), inner);
-        let refusals = play(heap, &mut outer, steps)?;
-        return joined(
-            refusals,
-            layers_line(heap, &mut outer.into_beneath().into_beneath())?,
-        );
-    }
-    let Some(numbers) = kind.strip_prefix("register by ") else {
-        return format!(in heap; "no such kind\n");
-    };
-    let channels = match Channels::new(table_of(numbers)) {
-        Ok(channels) => channels,
-        Err(e) => return refusal_line(heap, "the table", e),
-    };
-    let mut map = ChannelMap::new(channels, Register::new(0b10));
-    let refusals = play(heap, &mut map, steps)?;
-    joined(refusals, register_line(heap, &mut map.into_beneath())?)
-}
-
-// The table with i at i.
-fn straight_table() -> [u8; 32] {
-    let mut table = [0; 32];
-    for i in 0..32u8 {
-        table[i as usize] = i;
-    }
-    table
 }
 
 // A table that begins with these numbers and goes on with i at i.
 fn table_of(numbers: &str) -> [u8; 32] {
-    let mut table = straight_table();
-    for (i, word) in numbers.split_whitespace().enumerate() {
-        if i < 32 {
-            table[i] = word.parse::<u8>().unwrap_or(255);
-        }
+    let mut table = array::from_fn(|i| i as u8);
+    for (entry, word) in table.iter_mut().zip(numbers.split_whitespace()) {
+        *entry = word.parse::<u8>().unwrap_or(255);
     }
     table
-}
-
-fn joined(front: String, back: String) -> Result<String, AllocError> {
-    let mut text = front;
-    text.push_str(back.as_str())?;
-    Ok(text)
 }
 
 // Plays a line's steps, and its other order if it has one.

@@ -1,4 +1,3 @@
-use Rattle.std.proofs.Common.{◌<◌, ◌≤◌, ◌^◌, sym, ap, ◌∙◌}
 use Rattle.basics.proofs.SetLaws.{union_fits}
 use Rattle.basics.proofs.sets.Mask.union.Goals as goal
 

@@ -1,4 +1,3 @@
-use Rattle.std.proofs.Common.{◌<◌, ◌≤◌, ◌^◌, sym, ap, ◌∙◌}
 use Rattle.basics.proofs.SetLaws.{with_bit}
 use Rattle.basics.proofs.sets.Mask.with.Goals as goal
 

@@ -1,4 +1,4 @@
-use Rattle.std.proofs.Common.{◌<◌, ◌≤◌, ◌^◌, sym, ap, ◌∙◌}
+use Rattle.std.proofs.Common.{sym}
 use Rattle.basics.proofs.SetLaws.{without_bit, without_past}
 use Rattle.basics.proofs.sets.Mask.without.Goals as goal
 
