@@ -1,5 +1,5 @@
 -- Cutting records off the front of some bytes, one after another.
-use Rattle.std.proofs.Common.{◌≡◌, ℕ, suc, ◌+◌, ◌-◌, ◌<◌, ◌≤◌, List, [], ◌∷◌, ◌++◌, length, get_or, drop, Some, None, Ok, Err, Result, sym, refl, ap, ◌∙◌, append_assoc, append-nil, arith, length-drop}
+use Rattle.std.proofs.Common.{◌≡◌, ℕ, suc, ◌+◌, ◌-◌, ◌<◌, ◌≤◌, List, [], ◌∷◌, ◌++◌, get_or, drop, Some, None, Ok, Err, Result, sym, refl, ap, ◌∙◌, append_assoc, append-nil, arith}
 use native.Mathlib.Nat.{sub-zero}
 use Rattle.basics.specs.declared.refusal.Refusal.{Refusal}
 use Rattle.derivation.specs.Format.{unless, record_fault, Cut, prepend, cut}
@@ -35,13 +35,11 @@ module _ {A : Type 0} (length_of : ℕ → ℕ) (front : List ℕ → A) (total 
 
 -- After i of n records: what is cut off of all bytes is xs and what is cut off of left.
 pub record Cutting {A : Type 0} (length_of : ℕ → ℕ) (front : List ℕ → A) (total n : ℕ) (bytes : List ℕ) (xs : List A) (i : ℕ) (left : List ℕ) : Type 0 where
-  pub short : length left ≤ total
   pub same : cut length_of front total n bytes ≡ behind xs (cut length_of front total (n - i) left)
 
 pub cutting_none : {A : Type 0} (length_of : ℕ → ℕ) (front : List ℕ → A) (total n : ℕ) (bytes : List ℕ) (xs : List A) →
-    length bytes ≤ total → xs ≡ [] → Cutting length_of front total n bytes xs 0 bytes
-cutting_none length_of front total n bytes xs h e =
-    record { short = h; same = rw (e, sub-zero n) (behind_none (cut length_of front total n bytes)) }
+    xs ≡ [] → Cutting length_of front total n bytes xs 0 bytes
+cutting_none length_of front total n bytes xs e = record { same = rw (e, sub-zero n) (behind_none (cut length_of front total n bytes)) }
 
 module _ {A : Type 0} {length_of : ℕ → ℕ} {front : List ℕ → A} {total n : ℕ} {bytes : List ℕ} {xs : List A} {i : ℕ} {left : List ℕ}
     (c : Cutting length_of front total n bytes xs i left) where
@@ -53,7 +51,6 @@ module _ {A : Type 0} {length_of : ℕ → ℕ} {front : List ℕ → A} {total 
       (record_fault length_of total left ≡ None) × (x ≡ front left) × (after ≡ drop (1 + get_or left 0 0) left) → ys ≡ xs ++ x ∷ [] →
       Cutting length_of front total n bytes ys (i + 1) after
   cutting_more h read more = record {
-    short = rw (read.2, length-drop (1 + get_or left 0 0) left) (let l = c.short in omega arith);
     same = rw (more, read.1, read.2)
         (c.same
         ∙ ap (λ k. behind xs (cut length_of front total k left)) (one_less h)

@@ -1,10 +1,11 @@
 -- Reading one record after another: what was read is what was written.
-use Rattle.std.proofs.Common.{◌≡◌, ℕ, zero, suc, ◌+◌, ◌<◌, ◌≤◌, Bool, true, false, cond, ◌||◌, eqb, ltb, List, [], ◌∷◌, ◌++◌, map, length, get_or, take, drop, Some, None, Ok, Err, Option, Result, sym, refl, ap, ◌∙◌, subst, ap₂, append_assoc, arith, drop-cons}
+use Rattle.std.proofs.Common.{◌≡◌, ℕ, zero, suc, ◌+◌, ◌≤◌, Bool, true, false, cond, ◌||◌, eqb, ltb, List, [], ◌∷◌, ◌++◌, map, length, get_or, take, drop, Some, None, Ok, Err, Option, Result, sym, refl, ap, ◌∙◌, subst, ap₂, append_assoc, arith, drop-cons}
 use Rattle.std.specs.List.{flat_map}
 use Rattle.std.proofs.lemmas.List.{take-append-drop, drop_at, length-append}
 use Rattle.std.proofs.lemmas.Bool.{or_parts, or_from, ltb-false, le-ltb, eqb-true, eqb-false, eq-eqb, ne_eqb, cond-true, cond-false}
 use Rattle.basics.specs.declared.refusal.Refusal.{Refusal}
 use Rattle.derivation.specs.Format.{unless, and_then, record_fault, Cut, prepend, cut}
+use Rattle.derivation.specs.Reads.{Framed}
 use Rattle.derivation.proofs.FaultLaws.{cond_none}
 
 -- a check that passes only if its test does
@@ -43,12 +44,6 @@ take-firsts i zero xs h = refl
 take-firsts i (suc n) xs h =
     ap (take (suc n)) (drop-cons xs i 0 (omega arith))
     ∙ ap (λ l. get_or xs i 0 ∷ l) (take-firsts (suc i) n xs (omega arith))
-
--- the record at the front is within the bytes that are left, and as long as its kind says
-pub record Framed (length_of : ℕ → ℕ) (left : List ℕ) : Type 0 where
-  pub some : 0 < get_or left 0 0
-  pub within : get_or left 0 0 < length left
-  pub fitting : length_of (get_or left 1 0) ≡ get_or left 0 0
 
 -- a record is so exactly if it has no fault
 pub framed-from_none : (length_of : ℕ → ℕ) (total : ℕ) (left : List ℕ) → record_fault length_of total left ≡ None → Framed length_of left

@@ -14,8 +14,9 @@ use Rattle.basics.specs.Gates.{code, gate_of}
 use Rattle.derivation.specs.Rows.{row_of, record_of, rule_or, known_fault, row_fault}
 use Rattle.derivation.specs.Format.{gate_rule, kind_code, type_bytes, row_bytes, rule_bytes, type_length, row_length, front_type, front_row, type_kind, rule_of}
 use Rattle.derivation.specs.Faults.{first_fault}
+use Rattle.derivation.specs.Reads.{Framed}
 use Rattle.derivation.proofs.FaultLaws.{cond_none, or_else_both}
-use Rattle.derivation.proofs.FormatCut.{take-firsts, Framed, Written, written_from, Exact}
+use Rattle.derivation.proofs.FormatCut.{take-firsts, Written, written_from, Exact}
 
 -- a number above k is not k
 above : (k n : ℕ) → k < n → eqb n k ≡ false
