@@ -2,7 +2,7 @@
 use Rattle.std.proofs.Common.{◌≡◌, ℕ, suc, ◌+◌, ◌-◌, ◌<◌, ◌≤◌, List, [], ◌∷◌, ◌++◌, get_or, drop, Some, None, Ok, Err, Result, sym, refl, ap, ◌∙◌, append_assoc, append-nil, arith}
 use native.Mathlib.Nat.{sub-zero}
 use Rattle.basics.specs.declared.refusal.Refusal.{Refusal}
-use Rattle.derivation.specs.Format.{unless, record_fault, Cut, prepend, cut}
+use Rattle.derivation.specs.Format.{record_fault, Cut, prepend, cut}
 
 -- items in front of those that are cut off
 abbrev pub behind : {A : Type 0} → List A → Result (Cut A) Refusal → Result (Cut A) Refusal
@@ -27,11 +27,11 @@ module _ {A : Type 0} (length_of : ℕ → ℕ) (front : List ℕ → A) (total 
   cut-next : (n : ℕ) (left : List ℕ) → record_fault length_of total left ≡ None →
       cut length_of front total (suc n) left ≡ prepend (front left) (cut length_of front total n (drop (1 + get_or left 0 0) left))
   unfolding cut
-  cut-next n left none = ap (λ o. unless o (prepend (front left) (cut length_of front total n (drop (1 + get_or left 0 0) left)))) none
+  cut-next n left none = rw none refl
 
   cut-fault : (n : ℕ) (left : List ℕ) (d : Refusal) → record_fault length_of total left ≡ Some d → cut length_of front total (suc n) left ≡ Err d
   unfolding cut
-  cut-fault n left d some = ap (λ o. unless o (prepend (front left) (cut length_of front total n (drop (1 + get_or left 0 0) left)))) some
+  cut-fault n left d some = rw some refl
 
 -- After i of n records: what is cut off of all bytes is xs and what is cut off of left.
 pub record Cutting {A : Type 0} (length_of : ℕ → ℕ) (front : List ℕ → A) (total n : ℕ) (bytes : List ℕ) (xs : List A) (i : ℕ) (left : List ℕ) : Type 0 where

@@ -11,7 +11,7 @@ use Rattle.derivation.proofs.FaultLaws.{cond_none}
 -- a check that passes only if its test does
 pub cond_none-some : {R : Type 0} (b : Bool) (r : R) → cond b None (Some r) ≡ None → b ≡ true
 cond_none-some true r e = refl
-cond_none-some false r e = let z : ◌≡◌ {A = ℕ} 0 1 = cc in absurd (omega arith)
+cond_none-some false r e = cc
 
 -- one result is not read as two
 pub ok_same : {A : Type 0} {x y : A} → ◌≡◌ {A = Result A Refusal} (Ok x) (Ok y) → x ≡ y
@@ -19,19 +19,19 @@ ok_same e = cc
 
 -- a reading that came to a result: no fault before it
 pub unless_ok : {A : Type 0} (o : Option Refusal) (r : Result A Refusal) (x : A) → unless o r ≡ Ok x → (o ≡ None) × (r ≡ Ok x)
-unless_ok (Some f) r x e = let z : ◌≡◌ {A = ℕ} 0 1 = cc in absurd (omega arith)
+unless_ok (Some f) r x e = cc
 unless_ok None r x e = (refl, e)
 
 -- two readings in turn that came to a result: so did each
 pub and_then_ok : {A B : Type 0} (r : Result A Refusal) (f : A → Result B Refusal) (y : B) → and_then r f ≡ Ok y → (x : A) × (r ≡ Ok x) × (f x ≡ Ok y)
 and_then_ok (Ok x) f y e = (x, refl, e)
-and_then_ok (Err d) f y e = let z : ◌≡◌ {A = ℕ} 0 1 = cc in absurd (omega arith)
+and_then_ok (Err d) f y e = cc
 
 -- an item in front of a reading that came to a result: the rest did
 pub prepend_ok : {A : Type 0} (x : A) (r : Result (Cut A) Refusal) (c : Cut A) → prepend x r ≡ Ok c →
     (d : Cut A) × (r ≡ Ok d) × (c.items ≡ x ∷ d.items) × (c.rest ≡ d.rest)
 prepend_ok x (Ok d) c e = let same = ok_same e in (d, refl, sym (ap (λ z. z.items) same), sym (ap (λ z. z.rest) same))
-prepend_ok x (Err d) c e = let z : ◌≡◌ {A = ℕ} 0 1 = cc in absurd (omega arith)
+prepend_ok x (Err d) c e = cc
 
 -- the n elements of a list from place i on
 abbrev pub firsts : ℕ → ℕ → List ℕ → List ℕ

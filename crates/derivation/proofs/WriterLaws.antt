@@ -1,15 +1,17 @@
 -- Lists that are put at the front of a buffer one behind the other.
-use Rattle.std.proofs.Common.{◌≡◌, ℕ, ◌+◌, ◌-◌, ◌*◌, ◌/◌, ◌%◌, ◌<◌, ◌≤◌, List, [], ◌∷◌, ◌++◌, length, get_or, take, drop, Ok, sym, refl, ap, ◌∙◌, ap₂, append-nil, arith}
+use Rattle.std.proofs.Common.{◌≡◌, ℕ, zero, suc, ◌+◌, ◌-◌, ◌*◌, ◌/◌, ◌%◌, ◌<◌, ◌≤◌, List, [], ◌∷◌, ◌++◌, length, get_or, take, drop, Ok, sym, refl, ap, ◌∙◌, ap₂, append-nil, arith}
 use borrow.Rule.Slice.PartMut.{put_mid}
 use Rattle.std.specs.List.{flat_map}
 use Rattle.std.proofs.lemmas.List.{append_assoc, length-append, length-drop, take_at, drop_at, drop_all, drop-drop, take_more, take_rest, flat_map_more}
+use Rattle.std.specs.Int.{w16, to_be_bytes}
+use Rattle.std.proofs.lemmas.Nat.{be_bytes_2}
 use Rattle.std.proofs.lemmas.List.Folds.{length-flat_map-take}
 use Rattle.std.proofs.lemmas.Bool.{cond-true, le-leb}
 use Rattle.derivation.specs.declared.types.TypeEntry.{TypeEntry}
 use Rattle.derivation.specs.declared.rows.Row.{Row}
 use Rattle.derivation.specs.Format.{type_bytes, row_bytes, encode}
 use Rattle.derivation.specs.Written.{put_front, write_answer, write_after}
-use Rattle.derivation.proofs.FormatLaws.{encode-length}
+use Rattle.derivation.proofs.FormatLaws.{encode-length, types-length}
 
 -- a list behind those that stand at the front
 pub put-more : (s ws zs t ys : List ℕ) (i : ℕ) → t ≡ put_front s ws → i ≡ length ws → ys ≡ put_front (take (length t - i) (drop i t)) zs →
@@ -53,14 +55,14 @@ module _ {X : Type 0} (f : X → List ℕ) (xs : List X) (k : ℕ) (x : X) (h : 
 
 -- the whole
 
-types-length : (es : List TypeEntry) → length (flat_map type_bytes es) ≡ 4 * length es
-types-length [] = refl
-types-length (e ∷ es) = omega (arith, types-length es)
-
 -- five bytes of header, four of each type, and the rows
 pub encode-length-rows : (es : List TypeEntry) (rows : List Row) → length (encode es rows) ≡ 5 + 4 * length es + length (flat_map row_bytes rows)
 encode-length-rows es rows =
     encode-length es rows ∙ omega (arith, length-append (flat_map type_bytes es) (flat_map row_bytes rows), types-length es)
+
+-- a number of two bytes, the high one first
+pub two_bytes : (n : ℕ) → n < 65536 → to_be_bytes w16 n ≡ n / 256 ∷ n % 256 ∷ []
+two_bytes n h = be_bytes_2 (n / 256 ∷ n % 256 ∷ []) n refl (elim [ zero ↦ omega arith | suc zero ↦ omega arith | suc (suc k) ↦ omega arith ]) (omega arith)
 
 -- the first five bytes of a derivation of n bytes
 abbrev pub header : ℕ → List TypeEntry → List Row → List ℕ

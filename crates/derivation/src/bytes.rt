@@ -31,7 +31,7 @@ fn header(bytes: &[u8]) -> Result<(u8, u8, &[u8]), Refusal>
     if *version != 1 {
         return Err(Refusal::Version);
     }
-    if *high as usize * 256 + *low as usize != bytes.len() {
+    if u16::from_be_bytes([*high, *low]) as usize != bytes.len() {
         return Err(Refusal::LengthField);
     }
     if *types > 64 {

@@ -112,13 +112,8 @@ pub(crate) fn write_derivation(
     if len > buffer.len() {
         return Err(Refusal::BufferTooShort(len));
     }
-    let header = [
-        1,
-        (len / 256) as u8,
-        (len % 256) as u8,
-        types.len() as u8,
-        rows.len() as u8,
-    ];
+    let [high, low] = (len as u16).to_be_bytes();
+    let header = [1, high, low, types.len() as u8, rows.len() as u8];
     let mut at = put_bytes(&header, buffer);
     at += put_all(types, &mut buffer[at..]);
     at += put_all(rows, &mut buffer[at..]);
