@@ -1,6 +1,5 @@
 -- Cutting records off the front of some bytes, one after another.
 use Rattle.std.proofs.Common.{◌≡◌, ℕ, suc, ◌+◌, ◌-◌, ◌<◌, ◌≤◌, List, [], ◌∷◌, ◌++◌, get_or, drop, Some, None, Ok, Err, Result, sym, refl, ap, ◌∙◌, append_assoc, append-nil, arith}
-use native.Mathlib.Nat.{sub-zero}
 use Rattle.basics.specs.declared.refusal.Refusal.{Refusal}
 use Rattle.derivation.specs.Format.{record_fault, Cut, prepend, cut}
 
@@ -8,11 +7,6 @@ use Rattle.derivation.specs.Format.{record_fault, Cut, prepend, cut}
 abbrev pub behind : {A : Type 0} → List A → Result (Cut A) Refusal → Result (Cut A) Refusal
 behind xs (Ok c) = Ok (record { items = xs ++ c.items; rest = c.rest })
 behind xs (Err e) = Err e
-
--- no items
-behind_none : {A : Type 0} (r : Result (Cut A) Refusal) → r ≡ behind [] r
-behind_none (Ok c) = refl
-behind_none (Err e) = refl
 
 -- one more item
 behind_more : {A : Type 0} (xs : List A) (x : A) (r : Result (Cut A) Refusal) → behind xs (prepend x r) ≡ behind (xs ++ x ∷ []) r
@@ -36,10 +30,6 @@ module _ {A : Type 0} (length_of : ℕ → ℕ) (front : List ℕ → A) (total 
 -- After i of n records: what is cut off of all bytes is xs and what is cut off of left.
 pub record Cutting {A : Type 0} (length_of : ℕ → ℕ) (front : List ℕ → A) (total n : ℕ) (bytes : List ℕ) (xs : List A) (i : ℕ) (left : List ℕ) : Type 0 where
   pub same : cut length_of front total n bytes ≡ behind xs (cut length_of front total (n - i) left)
-
-pub cutting_none : {A : Type 0} (length_of : ℕ → ℕ) (front : List ℕ → A) (total n : ℕ) (bytes : List ℕ) (xs : List A) →
-    xs ≡ [] → Cutting length_of front total n bytes xs 0 bytes
-cutting_none length_of front total n bytes xs e = record { same = rw (e, sub-zero n) (behind_none (cut length_of front total n bytes)) }
 
 module _ {A : Type 0} {length_of : ℕ → ℕ} {front : List ℕ → A} {total n : ℕ} {bytes : List ℕ} {xs : List A} {i : ℕ} {left : List ℕ}
     (c : Cutting length_of front total n bytes xs i left) where

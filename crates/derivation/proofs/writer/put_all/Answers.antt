@@ -1,13 +1,8 @@
 -- The loop over the items: each record goes behind those before it.
 use Rattle.std.proofs.Common.{take, arith}
 use Rattle.std.specs.List.{flat_map}
-use Rattle.std.proofs.lemmas.List.{take_all}
 use Rattle.derivation.proofs.WriterLaws.{behind-room, joined_room, stands-more}
 use Rattle.derivation.proofs.writer.put_all.Goals as goal
-
-pub slice_bounds-put-count : goal.slice_bounds-put-count
-slice_bounds-put-count g c =
-    omega (arith, c.loop-item.invariant.0, joined_room g.T.ToBytes.bytes_of c.args.items.now c.loop-item.item-index c.item-item.result c.loop-item-test.true c.item-item.is)
 
 pub put-at-requires : goal.put-at-requires
 put-at-requires g c =
@@ -22,8 +17,3 @@ loop-item-preserved g c =
     stands-more g.T.ToBytes.bytes_of c.args.items.now c.loop-item.item-index c.item-item.result c.loop-item-test.true c.item-item.is
     c.args.buffer.now c.loop-item.buffer c.put-at.new.buffer c.loop-item.at c.put-at.result
     c.loop-item.invariant c.put-at.ensures.len c.put-at.ensures.after
-
-pub returns : goal.returns
-returns g c =
-    let all = rw (take_all c.loop-item.item-index c.args.items.now c.loop-item-test.false) at c.loop-item.invariant in
-    record { after = all.1; len = all.0 }
