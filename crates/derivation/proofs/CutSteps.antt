@@ -1,18 +1,12 @@
 -- Cutting records off the front of some bytes, one after another.
-use Rattle.std.proofs.Common.{◌≡◌, ℕ, suc, ◌+◌, ◌-◌, ◌<◌, ◌≤◌, List, [], ◌∷◌, ◌++◌, length, get_or, drop, Some, None, Ok, Err, Result, sym, refl, ap, ◌∙◌, append_assoc, append-nil, arith, length-drop}
-use native.Mathlib.Nat.{sub-zero}
+use Rattle.std.proofs.Common.{◌≡◌, ℕ, suc, ◌+◌, ◌-◌, ◌<◌, ◌≤◌, List, [], ◌∷◌, ◌++◌, get_or, drop, Some, None, Ok, Err, Result, sym, refl, ap, ◌∙◌, append_assoc, append-nil, arith}
 use Rattle.basics.specs.declared.refusal.Refusal.{Refusal}
-use Rattle.derivation.specs.Format.{unless, record_fault, Cut, prepend, cut}
+use Rattle.derivation.specs.Format.{record_fault, Cut, prepend, cut}
 
 -- items in front of those that are cut off
 abbrev pub behind : {A : Type 0} → List A → Result (Cut A) Refusal → Result (Cut A) Refusal
 behind xs (Ok c) = Ok (record { items = xs ++ c.items; rest = c.rest })
 behind xs (Err e) = Err e
-
--- no items
-behind_none : {A : Type 0} (r : Result (Cut A) Refusal) → r ≡ behind [] r
-behind_none (Ok c) = refl
-behind_none (Err e) = refl
 
 -- one more item
 behind_more : {A : Type 0} (xs : List A) (x : A) (r : Result (Cut A) Refusal) → behind xs (prepend x r) ≡ behind (xs ++ x ∷ []) r
@@ -27,21 +21,15 @@ module _ {A : Type 0} (length_of : ℕ → ℕ) (front : List ℕ → A) (total 
   cut-next : (n : ℕ) (left : List ℕ) → record_fault length_of total left ≡ None →
       cut length_of front total (suc n) left ≡ prepend (front left) (cut length_of front total n (drop (1 + get_or left 0 0) left))
   unfolding cut
-  cut-next n left none = ap (λ o. unless o (prepend (front left) (cut length_of front total n (drop (1 + get_or left 0 0) left)))) none
+  cut-next n left none = rw none refl
 
   cut-fault : (n : ℕ) (left : List ℕ) (d : Refusal) → record_fault length_of total left ≡ Some d → cut length_of front total (suc n) left ≡ Err d
   unfolding cut
-  cut-fault n left d some = ap (λ o. unless o (prepend (front left) (cut length_of front total n (drop (1 + get_or left 0 0) left)))) some
+  cut-fault n left d some = rw some refl
 
 -- After i of n records: what is cut off of all bytes is xs and what is cut off of left.
 pub record Cutting {A : Type 0} (length_of : ℕ → ℕ) (front : List ℕ → A) (total n : ℕ) (bytes : List ℕ) (xs : List A) (i : ℕ) (left : List ℕ) : Type 0 where
-  pub short : length left ≤ total
   pub same : cut length_of front total n bytes ≡ behind xs (cut length_of front total (n - i) left)
-
-pub cutting_none : {A : Type 0} (length_of : ℕ → ℕ) (front : List ℕ → A) (total n : ℕ) (bytes : List ℕ) (xs : List A) →
-    length bytes ≤ total → xs ≡ [] → Cutting length_of front total n bytes xs 0 bytes
-cutting_none length_of front total n bytes xs h e =
-    record { short = h; same = rw (e, sub-zero n) (behind_none (cut length_of front total n bytes)) }
 
 module _ {A : Type 0} {length_of : ℕ → ℕ} {front : List ℕ → A} {total n : ℕ} {bytes : List ℕ} {xs : List A} {i : ℕ} {left : List ℕ}
     (c : Cutting length_of front total n bytes xs i left) where
@@ -53,7 +41,6 @@ module _ {A : Type 0} {length_of : ℕ → ℕ} {front : List ℕ → A} {total 
       (record_fault length_of total left ≡ None) × (x ≡ front left) × (after ≡ drop (1 + get_or left 0 0) left) → ys ≡ xs ++ x ∷ [] →
       Cutting length_of front total n bytes ys (i + 1) after
   cutting_more h read more = record {
-    short = rw (read.2, length-drop (1 + get_or left 0 0) left) (let l = c.short in omega arith);
     same = rw (more, read.1, read.2)
         (c.same
         ∙ ap (λ k. behind xs (cut length_of front total k left)) (one_less h)

@@ -1,16 +1,17 @@
 -- Reading one record after another: what was read is what was written.
-use Rattle.std.proofs.Common.{◌≡◌, ℕ, zero, suc, ◌+◌, ◌<◌, ◌≤◌, Bool, true, false, cond, ◌||◌, eqb, ltb, List, [], ◌∷◌, ◌++◌, map, length, get_or, take, drop, Some, None, Ok, Err, Option, Result, sym, refl, ap, ◌∙◌, subst, ap₂, append_assoc, arith, drop-cons}
+use Rattle.std.proofs.Common.{◌≡◌, ℕ, zero, suc, ◌+◌, ◌≤◌, Bool, true, false, cond, ◌||◌, eqb, ltb, List, [], ◌∷◌, ◌++◌, map, length, get_or, take, drop, Some, None, Ok, Err, Option, Result, sym, refl, ap, ◌∙◌, subst, ap₂, append_assoc, arith, drop-cons}
 use Rattle.std.specs.List.{flat_map}
 use Rattle.std.proofs.lemmas.List.{take-append-drop, drop_at, length-append}
 use Rattle.std.proofs.lemmas.Bool.{or_parts, or_from, ltb-false, le-ltb, eqb-true, eqb-false, eq-eqb, ne_eqb, cond-true, cond-false}
 use Rattle.basics.specs.declared.refusal.Refusal.{Refusal}
 use Rattle.derivation.specs.Format.{unless, and_then, record_fault, Cut, prepend, cut}
+use Rattle.derivation.specs.Reads.{Framed}
 use Rattle.derivation.proofs.FaultLaws.{cond_none}
 
 -- a check that passes only if its test does
 pub cond_none-some : {R : Type 0} (b : Bool) (r : R) → cond b None (Some r) ≡ None → b ≡ true
 cond_none-some true r e = refl
-cond_none-some false r e = let z : ◌≡◌ {A = ℕ} 0 1 = cc in absurd (omega arith)
+cond_none-some false r e = cc
 
 -- one result is not read as two
 pub ok_same : {A : Type 0} {x y : A} → ◌≡◌ {A = Result A Refusal} (Ok x) (Ok y) → x ≡ y
@@ -18,19 +19,19 @@ ok_same e = cc
 
 -- a reading that came to a result: no fault before it
 pub unless_ok : {A : Type 0} (o : Option Refusal) (r : Result A Refusal) (x : A) → unless o r ≡ Ok x → (o ≡ None) × (r ≡ Ok x)
-unless_ok (Some f) r x e = let z : ◌≡◌ {A = ℕ} 0 1 = cc in absurd (omega arith)
+unless_ok (Some f) r x e = cc
 unless_ok None r x e = (refl, e)
 
 -- two readings in turn that came to a result: so did each
 pub and_then_ok : {A B : Type 0} (r : Result A Refusal) (f : A → Result B Refusal) (y : B) → and_then r f ≡ Ok y → (x : A) × (r ≡ Ok x) × (f x ≡ Ok y)
 and_then_ok (Ok x) f y e = (x, refl, e)
-and_then_ok (Err d) f y e = let z : ◌≡◌ {A = ℕ} 0 1 = cc in absurd (omega arith)
+and_then_ok (Err d) f y e = cc
 
 -- an item in front of a reading that came to a result: the rest did
 pub prepend_ok : {A : Type 0} (x : A) (r : Result (Cut A) Refusal) (c : Cut A) → prepend x r ≡ Ok c →
     (d : Cut A) × (r ≡ Ok d) × (c.items ≡ x ∷ d.items) × (c.rest ≡ d.rest)
 prepend_ok x (Ok d) c e = let same = ok_same e in (d, refl, sym (ap (λ z. z.items) same), sym (ap (λ z. z.rest) same))
-prepend_ok x (Err d) c e = let z : ◌≡◌ {A = ℕ} 0 1 = cc in absurd (omega arith)
+prepend_ok x (Err d) c e = cc
 
 -- the n elements of a list from place i on
 abbrev pub firsts : ℕ → ℕ → List ℕ → List ℕ
@@ -43,12 +44,6 @@ take-firsts i zero xs h = refl
 take-firsts i (suc n) xs h =
     ap (take (suc n)) (drop-cons xs i 0 (omega arith))
     ∙ ap (λ l. get_or xs i 0 ∷ l) (take-firsts (suc i) n xs (omega arith))
-
--- the record at the front is within the bytes that are left, and as long as its kind says
-pub record Framed (length_of : ℕ → ℕ) (left : List ℕ) : Type 0 where
-  pub some : 0 < get_or left 0 0
-  pub within : get_or left 0 0 < length left
-  pub fitting : length_of (get_or left 1 0) ≡ get_or left 0 0
 
 -- a record is so exactly if it has no fault
 pub framed-from_none : (length_of : ℕ → ℕ) (total : ℕ) (left : List ℕ) → record_fault length_of total left ≡ None → Framed length_of left

@@ -90,7 +90,7 @@ unfolding encode
 encode-length es rows = omega arith
 
 -- a type has four bytes
-types-length : (es : List TypeEntry) → length (flat_map type_bytes es) ≡ 4 * length es
+pub types-length : (es : List TypeEntry) → length (flat_map type_bytes es) ≡ 4 * length es
 types-length [] = refl
 types-length (e ∷ es) = omega (arith, types-length es)
 

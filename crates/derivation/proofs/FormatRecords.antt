@@ -1,6 +1,6 @@
 -- The records of types and rows: what was written is read, and what is read was written.
-use Rattle.std.proofs.Common.{◌≡◌, ℕ, zero, suc, ◌<◌, false, eqb, ltb, List, [], ◌∷◌, ◌++◌, map, length, get_or, take, Some, None, Option, refl, ap, ◌∙◌, ap₂, arith}
-use Rattle.std.proofs.lemmas.Bool.{ne_eqb}
+use Rattle.std.proofs.Common.{◌≡◌, ℕ, zero, suc, ◌<◌, ltb, List, [], ◌∷◌, ◌++◌, map, length, get_or, take, Some, None, Option, refl, ap, ◌∙◌, ap₂, arith}
+use Rattle.std.proofs.lemmas.Bool.Decides.{nat_tests}
 use Rattle.basics.specs.declared.gate.Gate.{Gate as GateName}
 use Rattle.basics.specs.declared.gate.Gate.TheVariants.{H, S, T, X, Z, Cx, Cz, Ccx}
 use Rattle.derivation.specs.declared.types.TypeKind.{TypeKind}
@@ -14,18 +14,15 @@ use Rattle.basics.specs.Gates.{code, gate_of}
 use Rattle.derivation.specs.Rows.{row_of, record_of, rule_or, known_fault, row_fault}
 use Rattle.derivation.specs.Format.{gate_rule, kind_code, type_bytes, row_bytes, rule_bytes, type_length, row_length, front_type, front_row, type_kind, rule_of}
 use Rattle.derivation.specs.Faults.{first_fault}
+use Rattle.derivation.specs.Reads.{Framed}
 use Rattle.derivation.proofs.FaultLaws.{cond_none, or_else_both}
-use Rattle.derivation.proofs.FormatCut.{take-firsts, Framed, Written, written_from, Exact}
-
--- a number above k is not k
-above : (k n : ℕ) → k < n → eqb n k ≡ false
-above k n h = ne_eqb n k (λ e. omega arith)
+use Rattle.derivation.proofs.FormatCut.{take-firsts, Written, written_from, Exact}
 
 -- types
 
 -- no further kinds of types
 type_unknown : (kind : ℕ) → 2 < kind → type_length kind ≡ 0
-type_unknown kind h = rw (above 1 kind (omega arith), above 2 kind h) refl
+type_unknown kind h = grind (arith, nat_tests)
 
 -- the bytes of a type record by its kind
 type-found : (kind : ℕ) (left : List ℕ) → get_or left 1 0 ≡ kind → type_length kind ≡ get_or left 0 0 → Framed type_length left →
@@ -56,23 +53,9 @@ types_exact = record { written = type-written; found = λ left f known. type-fou
 
 -- rows
 
--- a number above 8 is none of those up to 8
-above_eight : (n : ℕ) → 8 < n →
-    (eqb n 1 ≡ false) × (eqb n 2 ≡ false) × (eqb n 3 ≡ false) × (eqb n 4 ≡ false) × (eqb n 5 ≡ false) × (eqb n 6 ≡ false) × (eqb n 7 ≡ false) × (eqb n 8 ≡ false)
-above_eight n h = (
-  above 1 n (omega arith),
-  above 2 n (omega arith),
-  above 3 n (omega arith),
-  above 4 n (omega arith),
-  above 5 n (omega arith),
-  above 6 n (omega arith),
-  above 7 n (omega arith),
-  above 8 n h,
-)
-
 -- no further gates
 gate_unknown : (c : ℕ) → 8 < c → gate_of c ≡ None
-gate_unknown c h = let a = above_eight c h in rw (a.0, a.1, a.2, a.3, a.4, a.5, a.6, a.7) refl
+gate_unknown c h = grind (arith, nat_tests)
 
 -- a gate's code is read as the gate
 gate-again : (g : GateName) → gate_of (code g) ≡ Some g
@@ -91,7 +74,7 @@ Known o = Some (rule_or o) ≡ o
 
 -- a known gate has the code that it was read from
 gate-found : (c t : ℕ) → Known (gate_rule (gate_of c)) → rule_bytes t (rule_or (gate_rule (gate_of c))) ≡ 3 ∷ 4 ∷ t ∷ c ∷ []
-gate-found zero t known = let z : ◌≡◌ {A = ℕ} 0 1 = cc in absurd (omega arith)
+gate-found zero t known = cc
 gate-found (suc zero) t known = refl
 gate-found (suc (suc zero)) t known = refl
 gate-found (suc (suc (suc zero))) t known = refl
@@ -103,11 +86,11 @@ gate-found (suc (suc (suc (suc (suc (suc (suc (suc zero)))))))) t known = refl
 gate-found (suc (suc (suc (suc (suc (suc (suc (suc (suc n))))))))) t known =
     let c = suc (suc (suc (suc (suc (suc (suc (suc (suc n)))))))) in
     let none = rw (gate_unknown c (omega arith)) at known in
-    let z : ◌≡◌ {A = ℕ} 0 1 = cc none in absurd (omega arith)
+    cc none
 
 -- no further kinds of rows
 row_unknown : (kind : ℕ) → 8 < kind → row_length kind ≡ 0
-row_unknown kind h = let a = above_eight kind h in rw (a.0, a.1, a.2, a.3, a.4, a.5, a.6, a.7) refl
+row_unknown kind h = grind (arith, nat_tests)
 
 -- the bytes of a row record by its kind
 row-found : (kind : ℕ) (left : List ℕ) → get_or left 1 0 ≡ kind → row_length kind ≡ get_or left 0 0 → Framed row_length left →
@@ -145,7 +128,7 @@ rows_exact = record {
 
 -- a row without fault has a rule
 known_from : (es : List TypeEntry) (done : List Row) (t : ℕ) (o : Option Rule) → known_fault es done t o ≡ None → Known o
-known_from es done t None e = let z : ◌≡◌ {A = ℕ} 0 1 = cc in absurd (omega arith)
+known_from es done t None e = cc
 known_from es done t (Some rule) e = refl
 
 -- rows without fault are the records that they were read from

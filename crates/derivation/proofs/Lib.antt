@@ -17,7 +17,6 @@ pub mod Worked
 pub mod CountLaws
 pub mod EnvLaws
 pub mod HeldLaws
-pub mod RecordReads
 pub mod CutSteps
 pub mod ParseSteps
 pub mod StartLaws

@@ -1,23 +1,10 @@
 -- The steps of reading all bytes: header, types, rows, and what is left over.
-use Rattle.std.proofs.Common.{◌≡◌, ℕ, zero, suc, ◌+◌, ◌-◌, ◌≤◌, ◌≢◌, List, [], ◌∷◌, length, get_or, drop, Some, None, Ok, Err, Result, refl, ap, ◌∙◌, arith, length-drop}
+use Rattle.std.proofs.Common.{◌≡◌, ℕ, ◌-◌, ◌≢◌, List, [], ◌∷◌, length, get_or, drop, Some, None, Ok, Err, refl, arith}
 use Rattle.derivation.specs.declared.types.TypeEntry.{TypeEntry}
 use Rattle.derivation.specs.declared.rows.Record.{Record}
 use Rattle.basics.specs.declared.refusal.Refusal.{Refusal}
 use Rattle.basics.specs.declared.refusal.Refusal.TheVariants.{Trailing}
-use Rattle.derivation.specs.Format.{unless, and_then, header_fault, type_length, front_type, row_length, front_row, record_fault, Cut, cut, trailing_fault, Parsed, parse}
-use Rattle.derivation.proofs.FormatCut.{ok_same, unless_ok, prepend_ok}
-
--- what is left is a part of the bytes
-pub cut_short : {A : Type 0} (length_of : ℕ → ℕ) (front : List ℕ → A) (total n : ℕ) (left : List ℕ) {c : Cut A} → cut length_of front total n left ≡ Ok c → length c.rest ≤ length left
-unfolding cut
-cut_short length_of front total zero left {c} e = let s = ap (λ z. length z.rest) (ok_same e) in omega arith
-cut_short length_of front total (suc n) left {c} e =
-    let p = unless_ok (record_fault length_of total left) _ c e in
-    let q = prepend_ok (front left) _ c p.1 in
-    let k = 1 + get_or left 0 0 in
-    let m = cut_short length_of front total n (drop k left) q.1 in
-    let s = ap length q.3 in
-    omega (arith, length-drop k left)
+use Rattle.derivation.specs.Format.{header_fault, type_length, front_type, row_length, front_row, Cut, cut, trailing_fault, parse}
 
 -- bytes that are left over
 trailing_some : (total : ℕ) (left : List ℕ) → length left ≢ 0 → trailing_fault total left ≡ Some (Trailing (total - length left))
@@ -28,54 +15,26 @@ trailing_none : (total : ℕ) (left : List ℕ) → length left ≡ 0 → traili
 trailing_none total [] h = refl
 trailing_none total (b ∷ bs) h = absurd (omega arith)
 
--- what follows the rows, the types and the header
-abbrev after_rows : List ℕ → Cut TypeEntry → Cut Record → Result Parsed Refusal
-after_rows bytes ts rs = unless (trailing_fault (length bytes) rs.rest) (Ok (record { types = ts.items; records = rs.items }))
-
-abbrev after_types : List ℕ → ℕ → Cut TypeEntry → Result Parsed Refusal
-after_types bytes r ts = and_then (cut row_length front_row (length bytes) r ts.rest) (after_rows bytes ts)
-
-abbrev after_header : List ℕ → ℕ → ℕ → List ℕ → Result Parsed Refusal
-after_header bytes t r left = and_then (cut type_length front_type (length bytes) t left) (after_types bytes r)
-
 pub parse-header : (bytes : List ℕ) {d : Refusal} → header_fault bytes ≡ Some d → parse bytes ≡ Err d
 unfolding parse
-parse-header bytes e = ap (λ o. unless o (after_header bytes (get_or bytes 3 0) (get_or bytes 4 0) (drop 5 bytes))) e
-
-headed : (bytes : List ℕ) → header_fault bytes ≡ None → parse bytes ≡ after_header bytes (get_or bytes 3 0) (get_or bytes 4 0) (drop 5 bytes)
-unfolding parse
-headed bytes e = ap (λ o. unless o (after_header bytes (get_or bytes 3 0) (get_or bytes 4 0) (drop 5 bytes))) e
+parse-header bytes e = rw e refl
 
 module _ (bytes : List ℕ) {t r : ℕ} {left : List ℕ}
     (header : (header_fault bytes ≡ None) × (t ≡ get_or bytes 3 0) × (r ≡ get_or bytes 4 0) × (left ≡ drop 5 bytes)) where
-  after-header : parse bytes ≡ after_header bytes t r left
-  after-header = rw (header.1, header.2, header.3) (headed bytes header.0)
-
-  pub left-short : length left ≤ length bytes
-  left-short = rw (header.3, length-drop 5 bytes) (omega arith)
-
   pub parse-types : {d : Refusal} → cut type_length front_type (length bytes) t left ≡ Err d → parse bytes ≡ Err d
-  parse-types e = after-header ∙ ap (λ x. and_then x (after_types bytes r)) e
+  unfolding parse
+  parse-types e = rw (header.0, ← header.1, ← header.3, e) refl
 
   module _ {ts : Cut TypeEntry} (types : cut type_length front_type (length bytes) t left ≡ Ok ts) where
-    after-types : parse bytes ≡ after_types bytes r ts
-    after-types = after-header ∙ ap (λ x. and_then x (after_types bytes r)) types
-
-    pub types-short : length ts.rest ≤ length bytes
-    types-short = let h = cut_short type_length front_type (length bytes) t left types in let l = left-short in omega arith
-
     pub parse-rows : {d : Refusal} → cut row_length front_row (length bytes) r ts.rest ≡ Err d → parse bytes ≡ Err d
-    parse-rows e = after-types ∙ ap (λ x. and_then x (after_rows bytes ts)) e
+    unfolding parse
+    parse-rows e = rw (header.0, ← header.1, ← header.3, types, ← header.2, e) refl
 
     module _ {rs : Cut Record} (rows : cut row_length front_row (length bytes) r ts.rest ≡ Ok rs) where
-      after-rows : parse bytes ≡ after_rows bytes ts rs
-      after-rows = after-types ∙ ap (λ x. and_then x (after_rows bytes ts)) rows
-
-      pub rows_short : length rs.rest ≤ length bytes
-      rows_short = let h = cut_short row_length front_row (length bytes) r ts.rest rows in let l = types-short in omega arith
-
       pub parse-trailing : length rs.rest ≢ 0 → parse bytes ≡ Err (Trailing (length bytes - length rs.rest))
-      parse-trailing h = after-rows ∙ ap (λ o. unless o (Ok (record { types = ts.items; records = rs.items }))) (trailing_some (length bytes) rs.rest h)
+      unfolding parse
+      parse-trailing h = rw (header.0, ← header.1, ← header.3, types, ← header.2, rows, trailing_some (length bytes) rs.rest h) refl
 
       pub parse-done : length rs.rest ≡ 0 → parse bytes ≡ Ok (record { types = ts.items; records = rs.items })
-      parse-done h = after-rows ∙ ap (λ o. unless o (Ok (record { types = ts.items; records = rs.items }))) (trailing_none (length bytes) rs.rest h)
+      unfolding parse
+      parse-done h = rw (header.0, ← header.1, ← header.3, types, ← header.2, rows, trailing_none (length bytes) rs.rest h) refl

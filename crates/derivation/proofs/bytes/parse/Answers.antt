@@ -1,7 +1,7 @@
 -- Each step of the reader is that of the definition.
-use Rattle.std.proofs.Common.{inl, inr, ⊎_elim, rules}
+use Rattle.std.proofs.Common.{inl, inr, ⊎_elim, rules, ◌∙◌}
 use Rattle.std.proofs.lemmas.Result.{err_from_is_err_and}
-use Rattle.derivation.proofs.ParseSteps.{parse-header, types-short, parse-types, rows_short, parse-rows, parse-trailing, parse-done}
+use Rattle.derivation.proofs.ParseSteps.{parse-header, parse-types, parse-rows, parse-trailing, parse-done}
 use Rattle.derivation.proofs.bytes.parse.Goals as goal
 
 pub returns-in_err-type_count : goal.returns-in_err-type_count
@@ -12,22 +12,22 @@ returns-in_err-type_count c =
 pub returns-in_err-types : goal.returns-in_err-types
 returns-in_err-types c =
     let p = err_from_is_err_and c.from_residual-in_err-types.result c.from_residual-in_err-types.ensures.1 in
-    rw (p.1, p.2) (⊎_elim (λ e. inl (parse-types c.args.bytes.now c.in_ok-type_count.ensures e)) inr c.in_err-types.ensures)
-
-pub cut_rows-requires : goal.cut_rows-requires
-cut_rows-requires c = types-short c.args.bytes.now c.in_ok-type_count.ensures c.in_ok-types.ensures
+    rw (p.1, p.2) (⊎_elim (λ e. inl (parse-types c.args.bytes.now c.in_ok-type_count.ensures e)) inr c.in_err-types.ensures.read)
 
 pub returns-in_err-records : goal.returns-in_err-records
 returns-in_err-records c =
     let p = err_from_is_err_and c.from_residual-in_err-records.result c.from_residual-in_err-records.ensures.1 in
-    rw (p.1, p.2) (⊎_elim (λ e. inl (parse-rows c.args.bytes.now c.in_ok-type_count.ensures c.in_ok-types.ensures e)) inr c.in_err-records.ensures)
-
-pub overflow_sub-result : goal.overflow_sub-result
-overflow_sub-result c = rows_short c.args.bytes.now c.in_ok-type_count.ensures c.in_ok-types.ensures c.in_ok-records.ensures
+    let rows = rw c.in_ok-types.ensures.same at c.in_err-records.ensures.read in
+    rw (p.1, p.2) (⊎_elim (λ e. inl (parse-rows c.args.bytes.now c.in_ok-type_count.ensures c.in_ok-types.ensures.read e)) inr rows)
 
 pub returns-then-not-is_empty : goal.returns-then-not-is_empty
 returns-then-not-is_empty c =
-    inl (parse-trailing c.args.bytes.now c.in_ok-type_count.ensures c.in_ok-types.ensures c.in_ok-records.ensures (search rules))
+    let rows = rw c.in_ok-types.ensures.same at c.in_ok-records.ensures.read in
+    let total = c.in_ok-records.ensures.same ∙ c.in_ok-types.ensures.same in
+    let at = rw total at c.at.ensures in
+    rw at (inl (parse-trailing c.args.bytes.now c.in_ok-type_count.ensures c.in_ok-types.ensures.read rows (search rules)))
 
 pub returns : goal.returns
-returns c = parse-done c.args.bytes.now c.in_ok-type_count.ensures c.in_ok-types.ensures c.in_ok-records.ensures (search rules)
+returns c =
+    let rows = rw c.in_ok-types.ensures.same at c.in_ok-records.ensures.read in
+    parse-done c.args.bytes.now c.in_ok-type_count.ensures c.in_ok-types.ensures.read rows (search rules)

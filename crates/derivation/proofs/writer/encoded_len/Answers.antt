@@ -1,30 +1,31 @@
--- The loop over the rows: no derivation is too long to count.
-use Rattle.std.proofs.Common.{length, ap, arith}
-use Rattle.std.specs.List.{flat_map}
-use Rattle.std.proofs.lemmas.List.{take_all}
-use Rattle.derivation.specs.Format.{row_bytes}
-use Rattle.derivation.specs.Rows.{no_row}
+-- The sum of the rows' lengths: no derivation is too long to count.
+use Rattle.std.proofs.Common.{◌≡◌, ◌+◌, ◌*◌, length, arith, rules, tests}
+use Rattle.std.proofs.lemmas.Iterator.{YieldsList-from_map, YieldsList-from_slice}
+use Rattle.std.proofs.lemmas.Iterator.Consumers.{sum_by_from_yields_List, fits_by_from_yields_list}
+use Rattle.std.proofs.lemmas.List.Concat.{length-flat_map}
+use Rattle.derivation.specs.Format.{row_bytes, encode}
 use Rattle.derivation.proofs.FormatLaws.{encode-bound}
-use Rattle.derivation.proofs.WriterLaws.{joined_room, length_joined-more, encode-length-rows}
+use Rattle.derivation.proofs.WriterLaws.{encode-length-rows}
 use Rattle.derivation.proofs.writer.encoded_len.Goals as goal
+use Rattle.derivation.proofs.writer.encoded_len.Goals.{After-sum}
 
-pub overflow_add-len-in-loop-row : goal.overflow_add-len-in-loop-row
-overflow_add-len-in-loop-row c =
+pub sum-requires-clause-fits : goal.sum-requires-clause-fits
+sum-requires-clause-fits c =
     let es = c.args.types.now in
     let rows = c.args.rows.now in
-    omega (
-      arith,
-      c.loop-row.invariant,
-      joined_room row_bytes rows c.loop-row.row-index no_row c.loop-row-test.true,
-      encode-length-rows es rows,
-      encode-bound es rows c.requires.few_types c.requires.few_rows,
-    )
+    fits_by_from_yields_list (λ row. length (row_bytes row)) rows c.map.result _
+    (YieldsList-from_map _ (λ row. length (row_bytes row)) (YieldsList-from_slice rows cc) c.map.ensures.closure (λ x r q k. search (rules, tests)))
+    (omega (arith, encode-bound es rows c.requires.few_types c.requires.few_rows, encode-length-rows es rows, length-flat_map row_bytes rows))
 
-pub loop-row-preserved : goal.loop-row-preserved
-loop-row-preserved c = omega (arith, c.loop-row.invariant, length_joined-more row_bytes c.args.rows.now c.loop-row.row-index no_row c.loop-row-test.true)
+counted : (c : After-sum) → 5 + 4 * length c.args.types.now + c.sum.result ≡ length (encode c.args.types.now c.args.rows.now)
+counted c =
+    let rows = c.args.rows.now in
+    let sum = sum_by_from_yields_List (λ row. length (row_bytes row)) rows c.map.result c.sum.result c.sum.ensures.ran
+    (YieldsList-from_map _ (λ row. length (row_bytes row)) (YieldsList-from_slice rows cc) c.map.ensures.closure (λ x r q k. search (rules, tests))) in
+    omega (arith, sum, encode-length-rows c.args.types.now rows, length-flat_map row_bytes rows)
+
+pub overflow_add-result-2 : goal.overflow_add-result-2
+overflow_add-result-2 c = omega (arith, counted c, encode-bound c.args.types.now c.args.rows.now c.requires.few_types c.requires.few_rows)
 
 pub returns : goal.returns
-returns c =
-    let rows = c.args.rows.now in
-    let all = ap (λ l. length (flat_map row_bytes l)) (take_all c.loop-row.row-index rows c.loop-row-test.false) in
-    omega (arith, c.loop-row.invariant, all, encode-length-rows c.args.types.now rows)
+returns c = counted c

@@ -1,26 +1,48 @@
 -- Header, types and rows, one behind the other, where there is room for all.
-use Rattle.std.proofs.Common.{◌≡◌, ◌+◌, length, arith}
+use Rattle.std.proofs.Common.{◌≡◌, ◌+◌, ◌++◌, arith, ◌∙◌}
 use Rattle.std.specs.List.{flat_map}
+use Rattle.std.proofs.lemmas.List.{length-append}
 use Rattle.derivation.specs.Format.{type_bytes, row_bytes}
+use Rattle.derivation.specs.Written.{put_front}
 use Rattle.derivation.proofs.FormatLaws.{encode-bound}
-use Rattle.derivation.proofs.WriterLaws.{room, answered, written}
+use Rattle.derivation.proofs.WriterLaws.{header, two_bytes, put-more, behind-room, room, answered, written}
 use Rattle.derivation.proofs.writer.write_derivation.Goals as goal
+use Rattle.derivation.proofs.writer.write_derivation.Goals.{After-put_bytes-at}
 
-pub overflow_cast-header : goal.overflow_cast-header
-overflow_cast-header c =
+pub overflow_cast-len : goal.overflow_cast-len
+overflow_cast-len c =
     omega (arith, c.encoded_len-len.ensures, encode-bound c.args.types.now c.args.rows.now c.requires.few_types c.requires.few_rows)
 
-pub put_bytes-types_at-requires : goal.put_bytes-types_at-requires
-put_bytes-types_at-requires c =
+pub put_bytes-at-requires : goal.put_bytes-at-requires
+put_bytes-at-requires c =
     omega (arith, room c.args.types.now c.args.rows.now c.args.buffer.now _ c.encoded_len-len.ensures c.if-len-buffer.false)
 
-pub put_types-rows_at-requires : goal.put_types-rows_at-requires
-put_types-rows_at-requires c =
-    omega (arith, room c.args.types.now c.args.rows.now c.args.buffer.now _ c.encoded_len-len.ensures c.if-len-buffer.false)
+headed : (c : After-put_bytes-at) → c.put_bytes-at.new.buffer ≡ put_front c.args.buffer.now (header c.encoded_len-len.result c.args.types.now c.args.rows.now)
+headed c =
+    let small = encode-bound c.args.types.now c.args.rows.now c.requires.few_types c.requires.few_rows in
+    rw (c.to_be_bytes.ensures ∙ two_bytes c.encoded_len-len.result (omega (arith, c.encoded_len-len.ensures, small))) at c.put_bytes-at.ensures.after
 
-pub put_rows-requires : goal.put_rows-requires
-put_rows-requires c =
-    omega (arith, room c.args.types.now c.args.rows.now c.args.buffer.now _ c.encoded_len-len.ensures c.if-len-buffer.false)
+pub put_all-at-requires : goal.put_all-at-requires
+put_all-at-requires c =
+    let es = c.args.types.now in
+    let rows = c.args.rows.now in
+    let s = c.args.buffer.now in
+    let n = c.encoded_len-len.result in
+    behind-room s (header n es rows) (flat_map type_bytes es) c.put_bytes-at.new.buffer c.put_bytes-at.result
+    (headed (goal.at.put_all-at-requires c).After-put_bytes-at) c.put_bytes-at.ensures.len
+    (omega (arith, room es rows s n c.encoded_len-len.ensures c.if-len-buffer.false))
+
+pub put_all-at-requires-2 : goal.put_all-at-requires-2
+put_all-at-requires-2 c =
+    let es = c.args.types.now in
+    let rows = c.args.rows.now in
+    let s = c.args.buffer.now in
+    let n = c.encoded_len-len.result in
+    let types = put-more s (header n es rows) (flat_map type_bytes es) c.put_bytes-at.new.buffer c.put_all-at.new.buffer c.put_bytes-at.result
+    (headed (goal.at.put_all-at-requires-2 c).After-put_bytes-at) c.put_bytes-at.ensures.len c.put_all-at.ensures.after in
+    let len = length-append (header n es rows) (flat_map type_bytes es) in
+    behind-room s (header n es rows ++ flat_map type_bytes es) (flat_map row_bytes rows) _ (c.put_bytes-at.result + c.put_all-at.result)
+    types (omega (arith, len)) (omega (arith, len, room es rows s n c.encoded_len-len.ensures c.if-len-buffer.false))
 
 pub returns : goal.returns
 returns c =
@@ -28,12 +50,12 @@ returns c =
     let rows = c.args.rows.now in
     let s = c.args.buffer.now in
     let n = c.encoded_len-len.result in
-    let end : c.put_rows.result ≡ 5 + length (flat_map type_bytes es) + length (flat_map row_bytes rows) = omega arith in
+    let types = put-more s (header n es rows) (flat_map type_bytes es) c.put_bytes-at.new.buffer c.put_all-at.new.buffer c.put_bytes-at.result
+    (headed (goal.at.returns c).After-put_bytes-at) c.put_bytes-at.ensures.len c.put_all-at.ensures.after in
+    let len = length-append (header n es rows) (flat_map type_bytes es) in
+    let all = put-more s (header n es rows ++ flat_map type_bytes es) (flat_map row_bytes rows) _ c.put_all-at-2.new.buffer (c.put_bytes-at.result + c.put_all-at.result)
+    types (omega (arith, len)) c.put_all-at-2.ensures.after in
     record {
-      answer = answered es rows s n c.encoded_len-len.ensures c.if-len-buffer.false c.put_rows.result end;
-      after = written es rows s n c.encoded_len-len.ensures c.if-len-buffer.false
-          c.put_bytes-types_at.new.buffer c.put_types-rows_at.new.buffer c.put_rows.new.buffer
-          c.put_bytes-types_at.result c.put_types-rows_at.result
-          c.put_bytes-types_at.ensures.after c.put_bytes-types_at.ensures.end
-          c.put_types-rows_at.ensures.after c.put_types-rows_at.ensures.end c.put_rows.ensures.after;
+      answer = answered es rows s n c.encoded_len-len.ensures c.if-len-buffer.false _ (omega arith);
+      after = written es rows s n c.encoded_len-len.ensures c.if-len-buffer.false _ all;
     }
