@@ -1,5 +1,6 @@
 -- What the facts that a run keeps say of the move of a wire whose token is at a seat.
-use Rattle.std.proofs.Common.{◌≡◌, ℕ, suc, ◌^◌, ◌<◌, ◌≤◌, true, false, ltb, List, map, length, get_or, take, Some, None, sym, ap, ◌∙◌, subst}
+use Rattle.std.proofs.Common.{◌≡◌, ℕ, suc, ◌^◌, ◌<◌, ◌≤◌, true, false, ltb, List, map, length, get_or, take, Some, ap, ◌∙◌, subst}
+use Rattle.std.specs.Option.{IsSome, is_some}
 use lib.Count.{ones}
 use Rattle.std.proofs.lemmas.Bool.{cond-true, lt-ltb}
 use Rattle.basics.specs.declared.gate.Gate.{Gate as GateName}
@@ -13,7 +14,6 @@ use Rattle.derivation.specs.Rows.{all_below}
 use Rattle.machine.specs.declared.machine.Seat.{Seat}
 use Rattle.machine.specs.Calls.{gate_at, gate_in, seat_at}
 use Rattle.theory.specs.Tokens.{advanced, is_seat, movable, no_place, seats, together, wire_at}
-use Rattle.theory.proofs.Basics.{none_some}
 use Rattle.theory.proofs.Ways.{seat_facts}
 use Rattle.target.specs.Interface.{numbers_of}
 use Rattle.run.specs.Books.{Kept, Right, Underway, nobody, passed}
@@ -40,7 +40,7 @@ module _ (es : List TypeEntry) (rows : List Row) (b : Kept) (n w : ℕ) where
   pub record AtSeat (s : Seat) : Type 0 where
     pub row_in : s.row.0 < length rows
     pub arity_few : s.arity ≤ 3
-    pub gated : gate_at rows s.row.0 ≡ None → ⊥
+    pub gated : IsSome (gate_at rows s.row.0)
     pub ruled : (g : GateName) → gate_at rows s.row.0 ≡ Some g → rule_at rows place.row.0 ≡ Gate g
     pub short : (Full s → ⊥) → movable es rows b.tokens place ≡ false
     pub can : Full s → movable es rows b.tokens place ≡ true
@@ -61,7 +61,7 @@ module _ (es : List TypeEntry) (rows : List Row) (b : Kept) (n w : ℕ) where
         record {
           row_in = low;
           arity_few = seats-few (rule_at rows place.row.0);
-          gated = λ none. none_some (sym none ∙ cond-true (ltb place.row.0 (length rows)) _ _ (lt-ltb _ _ low) ∙ ap gate_in gate);
+          gated = ap is_some (cond-true (ltb place.row.0 (length rows)) _ _ (lt-ltb _ _ low) ∙ ap gate_in gate);
           ruled = rule;
           short = waits es rows a b n so right w l seat;
           can = full-can es rows a b n so right w l seat;

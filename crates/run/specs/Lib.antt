@@ -3,3 +3,4 @@ pub mod Calls
 pub mod Opening
 pub mod Guarantee
 pub mod Answers
+pub mod Stages

@@ -124,7 +124,7 @@ impl Books {
         let r = seat.row.0 as usize;
         let wires = self.waiting[r].seats;
         self.waiting[r].wires = 0;
-        for w in &wires[0..seat.arity as usize] {
+        for w in &wires[..seat.arity as usize] {
             self.step(machine, *w);
         }
     }

@@ -1,5 +1,5 @@
 -- One step: the next wire goes on, and the rest are left to go on.
-use Rattle.std.proofs.Common.{◌+◌, ◌-◌, List, length, get_or, take, drop, vec_items, sym, refl, ap, ◌∙◌, subst, arith}
+use Rattle.std.proofs.Common.{◌+◌, List, length, get_or, take, drop, vec_items, sym, refl, ap, ◌∙◌, subst, arith}
 use Rattle.std.proofs.lemmas.List.{at_drop_more, at_drop_all, get_or_read}
 use Rattle.basics.specs.declared.numbers.Wire.{Wire}
 use Rattle.target.specs.Interface.{numbers_of}
@@ -28,7 +28,7 @@ loop-w-preserved c =
     let es = vec_items c.args.machine.now.types in
     let rows = vec_items c.args.machine.now.rows in
     let b = books_of c.loop-w.self in
-    let ws = take (c.args.seat.arity - 0) c.index.result.now.seats in
+    let ws = take c.args.seat.arity c.index.result.now.seats in
     let i = c.loop-w.w-index in
     let w = (get_or ws i (record { 0 = 0 })).0 in (
       ap (λ (k : Kept). stepped_all es rows k (numbers_of (drop (i + 1) ws))) c.step.ensures
@@ -43,7 +43,7 @@ returns c =
     let es = vec_items c.args.machine.now.types in
     let rows = vec_items c.args.machine.now.rows in
     let b = c.args.self.now in
-    let ws = take (c.args.seat.arity - 0) c.index.result.now.seats in
+    let ws = take c.args.seat.arity c.index.result.now.seats in
     sym (at_drop_all (λ (l : List Wire). stepped_all es rows (books_of c.loop-w.self) (numbers_of l)) ws c.loop-w.w-index c.loop-w-test.false)
     ∙ c.loop-w.invariant.0
     ∙ passed_by es rows (books_of b) c.args.seat.row.0 c.args.seat.arity c.index.result.now c.index_mut.result.now (omega (arith, c.requires.fit.0)) c.index.ensures c.index_mut.ensures.value

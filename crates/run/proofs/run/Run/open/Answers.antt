@@ -1,5 +1,5 @@
 -- A run over the copy of a holder's derivation, and a target that begins with its wires.
-use Rattle.std.proofs.Common.{vec_items, ◌∙◌, ap₂}
+use Rattle.std.proofs.Common.{vec_items, sym, ◌∙◌, ap₂}
 use Rattle.derivation.specs.Starts.{starts as how_started}
 use Rattle.derivation.proofs.AcceptedLaws.{accepted_from_valid}
 use Rattle.theory.proofs.Assembled.{theory}
@@ -27,16 +27,16 @@ returns g c =
     let T = g.T.Target in
     let run = c.in_ok-run.run' in
     let before = c.args.target.now in
-    let asked = c.open_fault.new.target in
+    let asked = c.check_fit.new.target in
     let after = c.begin.new.self in
-    let same = c.open_fault.ensures.same in
+    let same = c.check_fit.ensures.same in
     let used = c.first_wires.result in
     let sets = c.start_sets-given.result in
     let of-used = used-known es rows used c.wires.result c.first_wires.ensures c.wires.ensures in
     let (types, of-rows, tokens, moves) = c.in_ok-run.ensures in
     let (of-given, of_ones) = sets-known es rows (vec_items run.starts) c.as_slice.result.now c.as_slice.ensures.value (run.started ∙ ap₂ how_started types of-rows) sets c.start_sets-given.ensures in
     let (begins, begun) = c.in_ok-begin.ensures.obeys in
-    let fine = not_refused T.view T.taken T.begun es rows before asked after same used sets.0 sets.1 of-used of-given of_ones c.in_default.ensures.value begins in
+    let fine = not_refused T.view T.taken T.begun es rows before asked after same used sets.0 sets.1 of-used of-given of_ones (sym c.in_ok-check_fit.ensures.value) begins in
     record {
       answer = (fine, as_opened T.view T.taken T.begun es rows before asked after same used sets.0 sets.1 of-used of-given of_ones (vec_items run.books.places) run.moves tokens moves begun);
       derivation = (types, of-rows);
