@@ -4,7 +4,7 @@ ghost use Rattle.std.specs.Prelude.{◌≡◌, ◌<◌, ◌≤◌, true, length,
 ghost use Rattle.derivation.specs.Sets.{only, union, without as removed};
 ghost use Rattle.derivation.specs.Rows.{all_below};
 ghost use Rattle.target.specs.Interface.{numbers_of};
-ghost use Rattle.run.specs.Books.{Fit, books_of, nobody, passed, sat, settled, start_books, stepped};
+ghost use Rattle.run.specs.Books.{FitFor, books_of, nobody, passed_in, sat, settled_in, start_books, stepped_in};
 
 use basics::numbers::Wire;
 use derivation::rows::Place;
@@ -73,13 +73,12 @@ impl Books {
         requires seat { seat.number < 3 }
         ensures { books_of self.new ≡ sat (books_of self.old) seat.row.0 seat.number seat.arity w.0 }
     {
-        let r = seat.row.0 as usize;
-        let mut here = self.waiting[r];
+        let here = &mut self.waiting[seat.row.0 as usize];
         here.wires = with(here.wires, w);
         here.seats[seat.number as usize] = w;
-        self.waiting[r] = here;
-        self.ready = if here.wires.count_ones() == seat.arity as u32 {
-            self.ready | here.wires
+        let all = here.wires;
+        self.ready = if all.count_ones() == seat.arity as u32 {
+            self.ready | all
         } else {
             without(self.ready, w)
         };
@@ -88,8 +87,8 @@ impl Books {
     // Wire w's token has come to p: it waits at a seat, or is home, or can go on.
     fn settle(&mut self, machine: &Machine, w: Wire, p: Place)
         requires wire { w.0 < 32 }
-        requires fit { Fit machine.now.types.items machine.now.rows.items (books_of self.old) }
-        ensures { books_of self.new ≡ settled machine.now.types.items machine.now.rows.items (books_of self.old) w.0 p }
+        requires fit { FitFor machine.now self.old }
+        ensures { books_of self.new ≡ settled_in machine.now self.old w.0 p }
     {
         if let Some(seat) = machine.seat(p) {
             self.sit(seat, w);
@@ -103,8 +102,8 @@ impl Books {
     // Wire w's token goes on to the next place.
     pub(crate) fn step(&mut self, machine: &Machine, w: Wire)
         requires wire { w.0 < length self.old.places.items }
-        requires fit { Fit machine.now.types.items machine.now.rows.items (books_of self.old) }
-        ensures { books_of self.new ≡ stepped machine.now.types.items machine.now.rows.items (books_of self.old) w.0 }
+        requires fit { FitFor machine.now self.old }
+        ensures { books_of self.new ≡ stepped_in machine.now self.old w.0 }
     {
         let i = w.0 as usize;
         if let Some(q) = machine.next(self.places[i]) {
@@ -118,8 +117,8 @@ impl Books {
         requires row { seat.row.0 < length machine.now.rows.items }
         requires arity { seat.arity ≤ 3 }
         requires wires { all_below (length self.old.places.items) (numbers_of (take seat.arity (slice_index_or self.old.waiting.items seat.row.0 nobody).seats)) ≡ true }
-        requires fit { Fit machine.now.types.items machine.now.rows.items (books_of self.old) }
-        ensures { books_of self.new ≡ passed machine.now.types.items machine.now.rows.items (books_of self.old) seat.row.0 seat.arity }
+        requires fit { FitFor machine.now self.old }
+        ensures { books_of self.new ≡ passed_in machine.now self.old seat.row.0 seat.arity }
     {
         let r = seat.row.0 as usize;
         let wires = self.waiting[r].seats;
