@@ -110,12 +110,11 @@ wires_read xs r n here l e = ap (λ (h : Waiting). take n h.seats) (get_or_read 
 pub wire_below : (xs : List Waiting) (r n k i : ℕ) (here : Waiting) → r < length xs → here ≡ get_or xs r here → all_below k (numbers_of (take n (get_or xs r nobody).seats)) ≡ true → i < length (take n here.seats) → (get_or (take n here.seats) i (record { 0 = 0 })).0 < k
 wire_below xs r n k i here l e f h = below_at k (take n here.seats) i (record { 0 = 0 }) (ap (λ (ws : List Wire). all_below k (numbers_of ws)) (wires_read xs r n here l e) ∙ f) h
 
--- a row whose entry was read, and read again to say that nobody waits there
-pub passed_by : (es : List TypeEntry) (rows : List Row) (b : Kept) (r n : ℕ) (here again : Waiting) → r < length b.waiting → here ≡ get_or b.waiting r here → again ≡ get_or b.waiting r again → stepped_all es rows (record { tokens = b.tokens; waiting = set b.waiting r (record { wires = 0; seats = again.seats }); ready = b.ready }) (numbers_of (take n here.seats)) ≡ passed es rows b r n
+-- a row whose entry was read, where nobody waits any more
+pub passed_by : (es : List TypeEntry) (rows : List Row) (b : Kept) (r n : ℕ) (here : Waiting) → r < length b.waiting → here ≡ get_or b.waiting r here → stepped_all es rows (record { tokens = b.tokens; waiting = set b.waiting r (record { wires = 0; seats = here.seats }); ready = b.ready }) (numbers_of (take n here.seats)) ≡ passed es rows b r n
 unfolding passed
-passed_by es rows b r n here again l e f =
-    ap₂ (λ (h : Waiting) (ws : List Wire). stepped_all es rows (record { tokens = b.tokens; waiting = set b.waiting r (record { wires = 0; seats = h.seats }); ready = b.ready }) (numbers_of ws))
-    (get_or_read b.waiting r again l f nobody) (wires_read b.waiting r n here l e)
+passed_by es rows b r n here l e =
+    ap (λ (h : Waiting). stepped_all es rows (record { tokens = b.tokens; waiting = set b.waiting r (record { wires = 0; seats = h.seats }); ready = b.ready }) (numbers_of (take n h.seats))) (get_or_read b.waiting r here l e nobody)
 
 module _ (es : List TypeEntry) (rows : List Row) where
   -- nobody waits yet

@@ -17,10 +17,9 @@ use Rattle.theory.proofs.Ways.{seat_no_end}
 use Rattle.target.specs.Interface.{View, applied_view, apply_fault, numbers_of}
 use Rattle.run.specs.declared.books.Waiting.{Waiting}
 use Rattle.run.specs.declared.run.Run.{Run}
-use Rattle.run.specs.Answers.{MoveAnswers}
+use Rattle.run.specs.Answers.{MoveAnswers, stage_of}
 use Rattle.run.specs.Books.{Fit, Kept, Right, Underway, books_of, nobody, passed}
 use Rattle.run.specs.Calls.{Stage, move_of}
-use Rattle.run.specs.Stages.{stage_of}
 use Rattle.run.proofs.FireFacts.{AtSeat, Full, at_seat, sitting}
 use Rattle.run.proofs.MoveAnswered.{refused_so}
 use Rattle.run.proofs.MoveCases.{moved-fired, moved-not, moved-refused}

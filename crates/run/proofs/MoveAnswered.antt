@@ -1,10 +1,10 @@
 -- What the call that moves a wire answers, case by case.
-use Rattle.std.proofs.Common.{◌≡◌, ℕ, ◌+◌, ◌^◌, ◌<◌, ◌≤◌, Bool, true, false, ◌&&◌, ltb, List, length, get_or, None, Ok, Err, Result, vec_items, sym, refl, ap, ◌∙◌, subst, ⊎_elim, arith}
+use Rattle.std.proofs.Common.{◌≡◌, ℕ, ◌+◌, ◌^◌, ◌<◌, ◌≤◌, Bool, true, false, cond, ◌&&◌, ltb, List, length, get_or, None, Ok, Err, Result, vec_items, sym, refl, ap, ◌∙◌, subst, ⊎_elim, arith}
 use mathlib.Core.Path.{subst⁻¹}
 use mathlib.Core.Bool.{Bool-set}
 use mathlib.Core.Logic.{∥∥₁_elim}
 use native.Mathlib.Numerals.{suc-eq-add-one}
-use Rattle.std.proofs.lemmas.Bool.{and_from, cases_Bool, cases_lt, cond-true, cond-false, lt-ltb, le-ltb}
+use Rattle.std.proofs.lemmas.Bool.{and_from, cases_Bool, cond-true, ltb-true, ltb-false}
 use Rattle.basics.specs.declared.gate.Gate.{Gate as GateName}
 use Rattle.basics.specs.declared.refusal.Refusal.{Refusal}
 use Rattle.basics.specs.declared.refusal.Refusal.TheVariants.{NoSuchWire}
@@ -19,31 +19,30 @@ use Rattle.theory.specs.Tokens.{is_seat, no_place}
 use Rattle.theory.proofs.Basics.{none_some}
 use Rattle.target.specs.Interface.{View}
 use Rattle.run.specs.declared.run.Run.{Run}
-use Rattle.run.specs.Answers.{MoveAnswers, place_of}
+use Rattle.run.specs.Answers.{MoveAnswers, move_in, place_of, stage_of}
 use Rattle.run.specs.Books.{Fit, Kept, Right, Underway, books_of, stepped}
 use Rattle.run.specs.Calls.{Stage}
-use Rattle.run.specs.Stages.{move_in, stage_of}
 use Rattle.run.proofs.MoveCases.{moved_on}
 use Rattle.run.proofs.MoveFacts.{books_fit, plain-can, plain-counted, plain-kept, plain-led, plain-under}
 use Rattle.run.proofs.MoveLaws.{run_stand}
 
-two_ways : {A E : Type 0} {x : A} {e : E} → ◌≡◌ {A = Result A E} (Ok x) (Err e) → ⊥
-two_ways h = let z : ◌≡◌ {A = ℕ} 0 1 = cc in omega arith
+-- which way a test led
+passed_so : {A E : Type 0} (b : Bool) {x p : A} (f : E) → ◌≡◌ {A = Result A E} (Ok p) (cond b (Ok x) (Err f)) → (b ≡ true) × (p ≡ x)
+passed_so true f e = (refl, cc)
+passed_so false f e = cc
+
+failed_so : {A E : Type 0} (b : Bool) (x : A) {e f : E} → ◌≡◌ {A = Result A E} (Err e) (cond b (Ok x) (Err f)) → (b ≡ false) × (f ≡ e)
+failed_so true x e = cc
+failed_so false x e = (refl, cc)
 
 module _ (tokens : List Place) (w : ℕ) where
   -- a place that is told is that of a wire's token
   told_place : (p : Place) → Ok p ≡ place_of tokens w → (w < length tokens) × (p ≡ get_or tokens w no_place)
-  told_place p e = ⊎_elim
-      (λ h. let is = e ∙ cond-true (ltb w (length tokens)) _ _ (lt-ltb _ _ h) in (h, cc))
-      (λ h. absurd (two_ways (e ∙ cond-false (ltb w (length tokens)) _ _ (le-ltb _ _ h))))
-      (cases_lt w (length tokens))
+  told_place p e = let (below, is) = passed_so (ltb w (length tokens)) _ e in (ltb-true w (length tokens) below, is)
 
   -- otherwise there is no such wire
   pub told_none : (f : Refusal) → Err f ≡ place_of tokens w → (length tokens ≤ w) × (NoSuchWire (record { 0 = w }) ≡ f)
-  told_none f e = ⊎_elim
-      (λ h. absurd (two_ways (sym (e ∙ cond-true (ltb w (length tokens)) _ _ (lt-ltb _ _ h)))))
-      (λ h. let is = e ∙ cond-false (ltb w (length tokens)) _ _ (le-ltb _ _ h) in (h, cc))
-      (cases_lt w (length tokens))
+  told_none f e = let (past, is) = failed_so (ltb w (length tokens)) _ e in (ltb-false w (length tokens) past, is)
 
 -- a move that is refused changes nothing
 pub refused_so : {S : Type 0} (m : Result (Stage S) Refusal) (s : Stage S) (e : Refusal) → m ≡ Err e → MoveAnswers m s (Err e) s

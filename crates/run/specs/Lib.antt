@@ -3,4 +3,3 @@ pub mod Calls
 pub mod Opening
 pub mod Guarantee
 pub mod Answers
-pub mod Stages

@@ -11,7 +11,8 @@ use derivation::rows::Place;
 use machine::machine::{Machine, Seat};
 use std::alloc::{AllocError, Global};
 
-// The wires that wait at the seats of a row: all of them as a set, and by seat.
+// The wires that wait at the seats of a row: all of them as a set, and by seat. A list would need memory, and no move
+// allocates: no gate has more than three seats. The set says which of them are held.
 #[derive(Clone, Copy)]
 pub(crate) struct Waiting {
     pub(crate) wires: u32,
@@ -42,6 +43,8 @@ fn without(set: u32, w: Wire) -> u32
     set ^ (set & (1u32 << w.0))
 }
 
+// The machine stands beside the books, and `fit` ties them. It is asked of each step, and is no field of the books: if they
+// held the machine, `new` could not settle the wires over the starts that the machine lends.
 impl Books {
     // The books of tokens at their starts. The machine's derivation has so many rows.
     pub(crate) fn new(heap: Global, machine: &Machine, rows: usize) -> Result<Books, AllocError>
@@ -120,9 +123,9 @@ impl Books {
         requires fit { FitFor machine.now self.old }
         ensures { books_of self.new ≡ passed_in machine.now self.old seat.row.0 seat.arity }
     {
-        let r = seat.row.0 as usize;
-        let wires = self.waiting[r].seats;
-        self.waiting[r].wires = 0;
+        let here = &mut self.waiting[seat.row.0 as usize];
+        here.wires = 0;
+        let wires = here.seats;
         for w in &wires[..seat.arity as usize] {
             self.step(machine, *w);
         }

@@ -1,5 +1,5 @@
 // A run: the tokens of a derivation on their way. It hands each gate that fires to a target, which comes with every call.
-ghost use Rattle.std.specs.Prelude.{◌≡◌, ℕ, ◌<◌, ◌≤◌, Bool, true, List, [], ◌∷◌, map, length, Some, None, MatchResult, OnOk, slice_index_or};
+ghost use Rattle.std.specs.Prelude.{◌≡◌, ◌<◌, ◌≤◌, [], ◌∷◌, map, length, Some, None, MatchResult, OnOk, slice_index_or};
 ghost use Rattle.std.specs.Simd.Lanes.{mask_l};
 ghost use Rattle.std.specs.Option.{option_map};
 ghost use Rattle.derivation.specs.Rows.{zero_row};
@@ -7,14 +7,12 @@ ghost use Rattle.derivation.specs.Starts.{starts as how_started};
 ghost use Rattle.basics.specs.declared.refusal.Layer.TheVariants.{Run as RunLayer};
 ghost use Rattle.basics.specs.declared.refusal.Refusal.TheVariants.{OutOfMemory};
 ghost use Rattle.target.specs.Interface.{Kept};
-ghost use Rattle.theory.specs.Runs.{Reached};
-ghost use Rattle.theory.specs.Tokens.{Fired, no_place};
+ghost use Rattle.theory.specs.Tokens.{no_place};
 ghost use Rattle.machine.specs.Calls.{seat_at};
-ghost use Rattle.run.specs.Answers.{Fresh, MoveAnswers, OpenAnswers, place_of};
 ghost use Rattle.run.specs.Books.{Right, Underway, books_of};
 ghost use Rattle.run.specs.Guarantee.{Guarantee};
 ghost use Rattle.run.specs.Opening.{first_wires, is_given, is_one, not_taken, open_fault, opened, unfit, walkable};
-ghost use Rattle.run.specs.Calls.{after_calls, all_home, lowest, move_of, sweep_of, Stage};
+ghost use Rattle.run.specs.Calls.{lowest};
 
 use crate::books::Books;
 use crate::call::Call;
@@ -105,11 +103,11 @@ pub struct Run {
 }
 
 impl Run {
-    ghost use Rattle.run.specs.Stages.{FreshOver, after_call_in, after_calls_in, move_in, stage_of, sweep_in};
+    ghost use Rattle.run.specs.Answers.{Fresh, MoveAnswers, OpenAnswers, after_call_in, after_calls_in, move_in, stage_of, sweep_in};
 
     // A run over the derivation of a holder, with no move made yet.
     fn over(heap: Global, holder: &Holder) -> Result<Run, Refusal>
-        ensures { MatchResult result (FreshOver holder.now.types.items holder.now.rows.items) (λ e. e ≡ OutOfMemory RunLayer) }
+        ensures { MatchResult result (Fresh holder.now.types.items holder.now.rows.items) (λ e. e ≡ OutOfMemory RunLayer) }
     {
         let machine = Machine::new(heap, holder).map_err(|_| NO_MEMORY)?;
         let books = Books::new(heap, &machine, holder.rows().len()).map_err(|_| NO_MEMORY)?;
@@ -124,7 +122,7 @@ impl Run {
 
     // A run over a new holder.
     pub fn new(heap: Global) -> Result<Run, Refusal>
-        ensures { MatchResult result (FreshOver [] (zero_row ∷ [])) (λ e. e ≡ OutOfMemory RunLayer) }
+        ensures { MatchResult result (Fresh [] (zero_row ∷ [])) (λ e. e ≡ OutOfMemory RunLayer) }
     {
         let holder = Holder::new(heap).map_err(|_| NO_MEMORY)?;
         Run::over(heap, &holder)

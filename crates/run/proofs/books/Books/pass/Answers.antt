@@ -11,7 +11,7 @@ use Rattle.run.proofs.books.Books.pass.Goals as goal
 pub step-requires : goal.step-requires
 step-requires c =
     let b = c.args.self.now in
-    let low = wire_below (vec_items b.waiting) c.args.seat.row.0 c.args.seat.arity (length (vec_items b.places)) c.loop-w.w-index c.index.result.now (omega (arith, c.requires.fit.0)) c.index.ensures c.requires.wires c.loop-w-test.true in
+    let low = wire_below (vec_items b.waiting) c.args.seat.row.0 c.args.seat.arity (length (vec_items b.places)) c.loop-w.w-index c.index_mut-here.result.now (omega (arith, c.requires.fit.0)) c.index_mut-here.ensures.value c.requires.wires c.loop-w-test.true in
     record { wire = omega (arith, low, c.loop-w.invariant.2); fit = c.loop-w.invariant.1 }
 
 pub loop-w-init : goal.loop-w-init
@@ -19,8 +19,8 @@ loop-w-init c =
     let m = c.args.machine.now in
     let b = c.args.self.now in
     let r = c.args.seat.row.0 in
-    let again = c.index_mut.result.now in
-    let same = ap (λ (h : Waiting). length h.seats) (get_or_read (vec_items b.waiting) r again (omega (arith, c.requires.fit.0)) c.index_mut.ensures.value nobody) in
+    let again = c.index_mut-here.result.now in
+    let same = ap (λ (h : Waiting). length h.seats) (get_or_read (vec_items b.waiting) r again (omega (arith, c.requires.fit.0)) c.index_mut-here.ensures.value nobody) in
     (refl, fit_set (vec_items m.types) (vec_items m.rows) (books_of b) r (record { wires = 0; seats = again.seats }) same c.requires.fit, refl)
 
 pub loop-w-preserved : goal.loop-w-preserved
@@ -28,7 +28,7 @@ loop-w-preserved c =
     let es = vec_items c.args.machine.now.types in
     let rows = vec_items c.args.machine.now.rows in
     let b = books_of c.loop-w.self in
-    let ws = take c.args.seat.arity c.index.result.now.seats in
+    let ws = take c.args.seat.arity c.index_mut-here.result.now.seats in
     let i = c.loop-w.w-index in
     let w = (get_or ws i (record { 0 = 0 })).0 in (
       ap (λ (k : Kept). stepped_all es rows k (numbers_of (drop (i + 1) ws))) c.step.ensures
@@ -43,7 +43,7 @@ returns c =
     let es = vec_items c.args.machine.now.types in
     let rows = vec_items c.args.machine.now.rows in
     let b = c.args.self.now in
-    let ws = take c.args.seat.arity c.index.result.now.seats in
+    let ws = take c.args.seat.arity c.index_mut-here.result.now.seats in
     sym (at_drop_all (λ (l : List Wire). stepped_all es rows (books_of c.loop-w.self) (numbers_of l)) ws c.loop-w.w-index c.loop-w-test.false)
     ∙ c.loop-w.invariant.0
-    ∙ passed_by es rows (books_of b) c.args.seat.row.0 c.args.seat.arity c.index.result.now c.index_mut.result.now (omega (arith, c.requires.fit.0)) c.index.ensures c.index_mut.ensures.value
+    ∙ passed_by es rows (books_of b) c.args.seat.row.0 c.args.seat.arity c.index_mut-here.result.now (omega (arith, c.requires.fit.0)) c.index_mut-here.ensures.value

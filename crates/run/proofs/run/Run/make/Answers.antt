@@ -1,6 +1,6 @@
 -- How both stand after a move, whatever it answered.
 use Rattle.std.proofs.Common.{vec_items, sym, ap, ◌∙◌}
-use Rattle.run.specs.Stages.{after_call_in}
+use Rattle.run.specs.Answers.{after_call_in}
 use Rattle.run.proofs.Replays.{after-moved}
 use Rattle.run.proofs.run.Run.make.Goals as goal
 

@@ -3,7 +3,7 @@ use Rattle.std.proofs.Common.{◌+◌, drop, vec_items, sym, ap, ◌∙◌}
 use Rattle.machine.specs.declared.machine.Machine.{Machine}
 use Rattle.run.specs.declared.call.Call.TheVariants.{Move}
 use Rattle.run.specs.Calls.{after_calls}
-use Rattle.run.specs.Stages.{stage_of}
+use Rattle.run.specs.Answers.{stage_of}
 use Rattle.run.proofs.Replays.{next-call, no_call}
 use Rattle.run.proofs.run.Run.replay.Goals as goal
 

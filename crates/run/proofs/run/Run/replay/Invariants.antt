@@ -1,5 +1,5 @@
 use Rattle.std.proofs.Common.{◌≡◌, drop}
-use Rattle.run.specs.Stages.{after_calls_in}
+use Rattle.run.specs.Answers.{after_calls_in}
 use Rattle.run.proofs.run.Run.replay.Given as goal
 
 -- the calls that are left lead where all of them did

@@ -3,7 +3,7 @@ use Rattle.std.proofs.Common.{◌≡◌, ◌+◌, ◌-◌, Bool, None, Ok, vec_i
 use Rattle.std.proofs.lemmas.Result.{err_from_is_err_and}
 use Rattle.machine.specs.declared.machine.Machine.{Machine}
 use Rattle.run.specs.Calls.{Swept, lowest, sweep_of}
-use Rattle.run.specs.Stages.{stage_of}
+use Rattle.run.specs.Answers.{stage_of}
 use Rattle.run.proofs.SweepSteps.{behind, made_as, none_told, refused_as, some_told, sweep-begun, sweep-further, sweep-over, sweep-refused}
 use Rattle.run.proofs.run.Run.sweep.Goals as goal
 

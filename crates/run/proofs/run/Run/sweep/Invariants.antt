@@ -1,5 +1,5 @@
 use Rattle.std.proofs.Common.{◌≡◌, ◌-◌}
-use Rattle.run.specs.Stages.{sweep_in}
+use Rattle.run.specs.Answers.{sweep_in}
 use Rattle.run.proofs.SweepSteps.{behind}
 use Rattle.run.proofs.run.Run.sweep.Given as goal
 
