@@ -8,20 +8,11 @@ use Rattle.run.specs.Books.{Fit, Kept, books_of, nobody, stepped_all}
 use Rattle.run.proofs.BookSteps.{fit_set, passed_by, stepped_count, stepped_fit, wire_below}
 use Rattle.run.proofs.books.Books.pass.Goals as goal
 
-pub step-requires : goal.step-requires
-step-requires c =
+pub step-requires-clause-wire : goal.step-requires-clause-wire
+step-requires-clause-wire c =
     let b = c.args.self.now in
     let low = wire_below (vec_items b.waiting) c.args.seat.row.0 c.args.seat.arity (length (vec_items b.places)) c.loop-w.w-index c.index_mut-here.result.now (omega (arith, c.requires.fit.0)) c.index_mut-here.ensures.value c.requires.wires c.loop-w-test.true in
-    record { wire = omega (arith, low, c.loop-w.invariant.2); fit = c.loop-w.invariant.1 }
-
-pub loop-w-init : goal.loop-w-init
-loop-w-init c =
-    let m = c.args.machine.now in
-    let b = c.args.self.now in
-    let r = c.args.seat.row.0 in
-    let again = c.index_mut-here.result.now in
-    let same = ap (λ (h : Waiting). length h.seats) (get_or_read (vec_items b.waiting) r again (omega (arith, c.requires.fit.0)) c.index_mut-here.ensures.value nobody) in
-    (refl, fit_set (vec_items m.types) (vec_items m.rows) (books_of b) r (record { wires = 0; seats = again.seats }) same c.requires.fit, refl)
+    omega (arith, low, c.loop-w.invariant.2)
 
 pub loop-w-preserved : goal.loop-w-preserved
 loop-w-preserved c =
