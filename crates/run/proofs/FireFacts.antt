@@ -39,8 +39,6 @@ module _ (es : List TypeEntry) (rows : List Row) (b : Kept) (n w : ℕ) where
 
   pub record AtSeat (s : Seat) : Type 0 where
     pub row_in : s.row.0 < length rows
-    pub arity_few : s.arity ≤ 3
-    pub gated : IsSome (gate_at rows s.row.0)
     pub ruled : (g : GateName) → gate_at rows s.row.0 ≡ Some g → rule_at rows place.row.0 ≡ Gate g
     pub short : (Full s → ⊥) → movable es rows b.tokens place ≡ false
     pub can : Full s → movable es rows b.tokens place ≡ true
@@ -60,8 +58,6 @@ module _ (es : List TypeEntry) (rows : List Row) (b : Kept) (n w : ℕ) where
         let rule = λ (g : GateName). gate-of rows place.row.0 g low in
         record {
           row_in = low;
-          arity_few = seats-few (rule_at rows place.row.0);
-          gated = ap is_some (cond-true (ltb place.row.0 (length rows)) _ _ (lt-ltb _ _ low) ∙ ap gate_in gate);
           ruled = rule;
           short = waits es rows a b n so right w l seat;
           can = full-can es rows a b n so right w l seat;

@@ -78,10 +78,6 @@ module _ (es : List TypeEntry) (rows : List Row) (a : Accepted es rows) (b : Kep
       abbrev here : Waiting
       here = get_or b.waiting row nobody
 
-      -- a seat is no end
-      pub seat-away : is_end es rows (get_or b.tokens w no_place) ≡ false
-      seat-away = seat_no_end es rows a (get_or b.tokens w no_place) seat
-
       pub seat-row : row < length rows
       seat-row = sure le_prop (λ fired run right. row_low es rows a b run right w l seat)
 

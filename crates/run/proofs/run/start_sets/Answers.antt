@@ -9,9 +9,6 @@ use Rattle.run.proofs.OpenSteps.{mask_skip, mask_with}
 use Rattle.run.proofs.run.start_sets.Goals as goal
 use Rattle.run.proofs.run.start_sets.Goals.{in-Given, in-Zero, in-One}
 
-pub loop-w-init : goal.loop-w-init
-loop-w-init c = (refl, refl)
-
 pub loop-w-preserved : goal.loop-w-preserved
 loop-w-preserved c =
     let xs = c.args.starts.now in
@@ -33,8 +30,3 @@ loop-w-preserved c =
       )
     ]
 
-pub returns : goal.returns
-returns c =
-    let all = take_all c.loop-w.w c.args.starts.now c.loop-w-test.false in
-    let (given, ones) = c.loop-w.invariant in
-    ap₂ (λ (a b : ℕ). (a, b)) (given ∙ ap (λ (xs : List Start). mask_l (map is_given xs)) all) (ones ∙ ap (λ (xs : List Start). mask_l (map is_one xs)) all)

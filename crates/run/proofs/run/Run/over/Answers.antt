@@ -7,11 +7,6 @@ use Rattle.run.specs.Books.{books_of}
 use Rattle.run.proofs.Fresh.{fresh-reached, fresh-right, fresh-tokens, still_ok}
 use Rattle.run.proofs.run.Run.over.Goals as goal
 
-pub new-requires-2 : goal.new-requires-2
-new-requires-2 c =
-    let copied = still_ok _ _ _ c.new.result c.new.ensures.copied c.map_err.ensures.cases c.map_err.ensures.variant c.in_ok-machine.was in
-    ap (λ (l : List Row). length l) (c.rows.ensures ∙ sym copied.1)
-
 pub invariant_of-result : goal.invariant_of-result
 invariant_of-result c =
     let m = c.in_ok-machine.machine in

@@ -7,12 +7,6 @@ use Rattle.run.specs.Answers.{stage_of}
 use Rattle.run.proofs.SweepSteps.{behind, made_as, none_told, refused_as, some_told, sweep-begun, sweep-further, sweep-over, sweep-refused}
 use Rattle.run.proofs.run.Run.sweep.Goals as goal
 
-pub loop-made-init : goal.loop-made-init
-loop-made-init g c =
-    let T = g.T.Target in
-    let m = c.args.self.now.machine in
-    (refl, sweep-begun T.taken T.applied (vec_items m.types) (vec_items m.rows) c.args.budget _)
-
 pub loop-made-preserved : goal.loop-made-preserved
 loop-made-preserved g c =
     let T = g.T.Target in
