@@ -1,8 +1,6 @@
 -- What the facts that a run keeps say of the move of a wire whose token is at a seat.
-use Rattle.std.proofs.Common.{◌≡◌, ℕ, suc, ◌^◌, ◌<◌, ◌≤◌, true, false, ltb, List, map, length, get_or, take, Some, ap, ◌∙◌, subst}
-use Rattle.std.specs.Option.{IsSome, is_some}
+use Rattle.std.proofs.Common.{◌≡◌, ℕ, suc, ◌^◌, ◌<◌, true, false, List, map, length, get_or, take, Some, subst}
 use lib.Count.{ones}
-use Rattle.std.proofs.lemmas.Bool.{cond-true, lt-ltb}
 use Rattle.basics.specs.declared.gate.Gate.{Gate as GateName}
 use Rattle.derivation.specs.declared.types.TypeEntry.{TypeEntry}
 use Rattle.derivation.specs.declared.rows.Rule.TheVariants.{Gate}
@@ -12,12 +10,11 @@ use Rattle.derivation.specs.Accepted.{Accepted}
 use Rattle.derivation.specs.Judgements.{rule_at}
 use Rattle.derivation.specs.Rows.{all_below}
 use Rattle.machine.specs.declared.machine.Seat.{Seat}
-use Rattle.machine.specs.Calls.{gate_at, gate_in, seat_at}
+use Rattle.machine.specs.Calls.{gate_at, seat_at}
 use Rattle.theory.specs.Tokens.{advanced, is_seat, movable, no_place, seats, together, wire_at}
 use Rattle.theory.proofs.Ways.{seat_facts}
 use Rattle.target.specs.Interface.{numbers_of}
 use Rattle.run.specs.Books.{Kept, Right, Underway, nobody, passed}
-use Rattle.run.proofs.Arriving.{seats-few}
 use Rattle.run.proofs.MoveFacts.{full-below, full-can, full-counted, full-kept, full-led, full-under, full-wires, seat-row, waits}
 use Rattle.run.proofs.SeatParts.{gate-of, seat_here, seat_is}
 

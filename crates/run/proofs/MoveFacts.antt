@@ -22,7 +22,6 @@ use Rattle.theory.specs.Tokens.{Fired, advanced, is_seat, movable, no_place, sea
 use Rattle.theory.proofs.Assembled.{theory}
 use Rattle.theory.proofs.Basics.{none_some, same_some}
 use Rattle.theory.proofs.Progress.{move_facts}
-use Rattle.theory.proofs.Ways.{seat_no_end}
 use Rattle.target.specs.Interface.{numbers_of}
 use Rattle.run.specs.declared.books.Waiting.{Waiting}
 use Rattle.run.specs.Books.{Fit, Kept, Right, Underway, nobody, passed, stepped}

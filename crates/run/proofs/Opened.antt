@@ -6,7 +6,6 @@ use Rattle.std.proofs.lemmas.List.{length-append}
 use Rattle.basics.specs.declared.gate.Gate.{Gate}
 use Rattle.derivation.specs.declared.types.TypeEntry.{TypeEntry}
 use Rattle.derivation.specs.declared.rows.Row.{Row}
-use Rattle.derivation.specs.declared.rows.Place.{Place}
 use Rattle.derivation.specs.declared.rows.Start.{Start}
 use Rattle.derivation.specs.declared.rows.Start.TheVariants.{Given}
 use Rattle.derivation.specs.Accepted.{valid}
@@ -14,10 +13,8 @@ use Rattle.derivation.specs.Places.{given, wires}
 use Rattle.derivation.specs.Starts.{bit_starts, starts as how_started}
 use Rattle.derivation.proofs.AcceptedLaws.{accepted_from_valid}
 use Rattle.derivation.proofs.StartLaws.{length-bit-starts}
-use Rattle.theory.specs.Ports.{starts}
-use Rattle.target.specs.Interface.{View, begin_fault, begun_view}
-use Rattle.run.specs.Calls.{Stage}
-use Rattle.run.specs.Opening.{first_wires, given_set, is_given, is_one, ones_set, open_fault, opened, unfit, used_set}
+use Rattle.target.specs.Interface.{View, begin_fault}
+use Rattle.run.specs.Opening.{first_wires, given_set, is_given, is_one, ones_set, open_fault, unfit, used_set}
 
 -- no fault, and then none either
 both_none : {A : Type 0} (o p : Option A) → o ≡ None → p ≡ None → ◌≡◌ {A = Option A} (elim o [ Some e ↦ Some e | None ↦ p ]) None

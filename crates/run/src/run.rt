@@ -143,7 +143,7 @@ impl Run {
     {
         check_fit(holder, target)?;
         let run = Run::over(heap, holder)?;
-        let (given, ones) = start_sets(run.starts.as_slice());
+        let (given, ones) = start_sets(&run.starts);
         target.begin(first_wires(holder.wires()), given, ones)?;
         *self = run;
         Ok(())

@@ -1,9 +1,6 @@
 -- The loop over the starts: each wire joins the set of its start.
-use Rattle.std.proofs.Common.{ℕ, List, map, refl, ap, ◌∙◌, ap₂}
-use lib.Lanes.{mask_l}
-use Rattle.std.proofs.lemmas.List.{take_all}
+use Rattle.std.proofs.Common.{ap}
 use Rattle.derivation.specs.declared.rows.Start.TheVariants.{Given}
-use Rattle.derivation.specs.declared.rows.Start.{Start}
 use Rattle.run.specs.Opening.{is_given, is_one}
 use Rattle.run.proofs.OpenSteps.{mask_skip, mask_with}
 use Rattle.run.proofs.run.start_sets.Goals as goal
@@ -29,4 +26,3 @@ loop-w-preserved c =
         mask_with is_one xs w Given h c.requires c.loop-w.ones c.match-start.ones ones (ap is_one x.in-One.is) x.ones-is,
       )
     ]
-

@@ -1,8 +1,5 @@
 -- One step: the next wire settles, and the rest are left to settle. A derivation that passed all checks has at most 32 wires.
-use Rattle.std.proofs.Common.{◌≡◌, ◌+◌, ◌≤◌, List, length, get_or, drop, replicate, vec_items, sym, refl, ap, ◌∙◌, subst, ap₂, arith}
-use Rattle.std.proofs.lemmas.List.{at_drop_all}
-use Rattle.derivation.specs.declared.rows.Place.{Place}
-use Rattle.theory.specs.Ports.{starts}
+use Rattle.std.proofs.Common.{◌≡◌, ◌+◌, ◌≤◌, List, length, get_or, drop, replicate, vec_items, sym, refl, ap, ◌∙◌, subst, arith}
 use Rattle.theory.specs.Tokens.{no_place}
 use Rattle.machine.proofs.StartTables.{starts-few}
 use Rattle.run.specs.declared.books.Waiting.{Waiting}
@@ -46,4 +43,3 @@ loop-w-preserved c =
           ∙ c.loop-w.invariant.0,
       subst (λ (k : Kept). Fit es rows k) (sym c.settle.ensures) (settled_fit es rows b w (get_or ps w no_place) c.loop-w.invariant.1),
     )
-

@@ -15,8 +15,8 @@ returns-in_err-apply-clause-answer g c =
     let T = g.T.Target in
     let p = err_from_is_err_and c.from_residual.result c.from_residual.ensures.1 in
     rw (p.1, p.2) (refuse-answer c.args.self.now c.args.w.0 c.requires.wire c.args.seat c.requires.seat c.index.result.now c.index.ensures T.taken T.applied (T.view c.args.target.now)
-        c.if-waiting-seat.false c.unwrap-gate.result (sym c.gate.ensures ∙ c.unwrap-gate.ensures) c.in_err-apply.field-0.0
-        c.in_err-apply.ensures.obeys (T.view c.apply.new.self) (ap T.view c.in_err-apply.ensures.kept))
+    c.if-waiting-seat.false c.unwrap-gate.result (sym c.gate.ensures ∙ c.unwrap-gate.ensures) c.in_err-apply.field-0.0
+    c.in_err-apply.ensures.obeys (T.view c.apply.new.self) (ap T.view c.in_err-apply.ensures.kept))
 
 pub pass-requires-clause-wires : goal.pass-requires-clause-wires
 pass-requires-clause-wires g c =

@@ -1,7 +1,6 @@
 -- What is kept of the wires that can move says which is the lowest.
 use Rattle.std.proofs.Common.{ℕ, vec_items, sym, ap}
 use Rattle.std.specs.Option.{option_map}
-use Rattle.basics.specs.declared.numbers.Wire.{Wire}
 use Rattle.run.specs.Books.{books_of}
 use Rattle.run.proofs.SweepSteps.{ready-first, ready_none}
 use Rattle.run.proofs.run.Run.lowest.Goals as goal

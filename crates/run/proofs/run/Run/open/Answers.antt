@@ -12,7 +12,7 @@ start_sets-given-requires g c =
     let h = c.args.holder.now in
     let run = c.in_ok-run.run' in
     let (types, of-rows, tokens, moves) = c.in_ok-run.ensures in
-    few-starts (vec_items h.types) (vec_items h.rows) (vec_items run.starts) c.as_slice.result.now c.as_slice.ensures.value (run.started ∙ ap₂ how_started types of-rows) h.accepted
+    few-starts (vec_items h.types) (vec_items h.rows) (vec_items run.starts) c.deref.result.now c.deref.ensures.value (run.started ∙ ap₂ how_started types of-rows) h.accepted
 
 pub first_wires-requires : goal.first_wires-requires
 first_wires-requires g c =
@@ -31,6 +31,6 @@ returns-clause-guarantee g c =
     let sets = c.start_sets-given.result in
     let of-used = used-known es rows used c.wires.result c.first_wires.ensures c.wires.ensures in
     let (types, of-rows, tokens, moves) = c.in_ok-run.ensures in
-    let (of-given, of_ones) = sets-known es rows (vec_items run.starts) c.as_slice.result.now c.as_slice.ensures.value (run.started ∙ ap₂ how_started types of-rows) sets c.start_sets-given.ensures in
+    let (of-given, of_ones) = sets-known es rows (vec_items run.starts) c.deref.result.now c.deref.ensures.value (run.started ∙ ap₂ how_started types of-rows) sets c.start_sets-given.ensures in
     let fine = not_refused T.view T.taken T.begun es rows before c.check_fit.new.target c.check_fit.ensures.same used sets.0 sets.1 of-used of-given of_ones (sym c.in_ok-check_fit.ensures.value) c.in_ok-begin.ensures.obeys.0 in
     guarantee T.taken T.begun T.applied g.met.T.Target.commutes es rows (theory es rows (accepted_from_valid es rows h.accepted)) (T.view before) fine

@@ -1,6 +1,5 @@
 -- A run over the copy of a holder's derivation, with its tokens at their starts.
-use Rattle.std.proofs.Common.{List, length, vec_items, sym, refl, ap, ◌∙◌, ap₂}
-use Rattle.derivation.specs.declared.rows.Row.{Row}
+use Rattle.std.proofs.Common.{vec_items, sym, refl, ◌∙◌, ap₂}
 use Rattle.derivation.specs.Starts.{starts as how_started}
 use Rattle.theory.specs.Ports.{starts}
 use Rattle.run.specs.Books.{books_of}

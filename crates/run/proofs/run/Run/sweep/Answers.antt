@@ -1,10 +1,10 @@
 -- The loop makes the moves of a sweep, one by one.
-use Rattle.std.proofs.Common.{◌≡◌, ◌+◌, ◌-◌, Bool, None, Ok, vec_items, sym, refl, ap, ◌∙◌, ap₂, arith}
+use Rattle.std.proofs.Common.{◌+◌, ◌-◌, Bool, Ok, vec_items, sym, ap, ◌∙◌, ap₂, arith}
 use Rattle.std.proofs.lemmas.Result.{err_from_is_err_and}
 use Rattle.machine.specs.declared.machine.Machine.{Machine}
-use Rattle.run.specs.Calls.{Swept, lowest, sweep_of}
+use Rattle.run.specs.Calls.{Swept, sweep_of}
 use Rattle.run.specs.Answers.{stage_of}
-use Rattle.run.proofs.SweepSteps.{behind, made_as, none_told, refused_as, some_told, sweep-begun, sweep-further, sweep-over, sweep-refused}
+use Rattle.run.proofs.SweepSteps.{behind, made_as, none_told, refused_as, some_told, sweep-further, sweep-over, sweep-refused}
 use Rattle.run.proofs.run.Run.sweep.Goals as goal
 
 pub loop-made-preserved : goal.loop-made-preserved
