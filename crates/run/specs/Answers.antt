@@ -48,9 +48,10 @@ module _ {S : Type 0} (takes : Gate → Bool) (applied : Gate → List ℕ → S
   abbrev pub sweep_in : ℕ → Swept S
   sweep_in budget = sweep_of takes applied (vec_items r.machine.types) (vec_items r.machine.rows) budget (stage_of r v)
 
-  -- how both stand after a call, and after a list of calls
+  -- how both stand after a call
   abbrev pub after_call_in : Call → Stage S
   after_call_in c = after_call takes applied (vec_items r.machine.types) (vec_items r.machine.rows) (stage_of r v) c
 
+  -- how both stand after a list of calls
   abbrev pub after_calls_in : List Call → Stage S
   after_calls_in cs = after_calls takes applied (vec_items r.machine.types) (vec_items r.machine.rows) (stage_of r v) cs

@@ -77,17 +77,21 @@ module _ (es : List TypeEntry) (rows : List Row) where
   abbrev pub Fit : Kept → Type 0
   Fit b = (length b.waiting ≡ length rows) × ((r : ℕ) → r < length rows → length (get_or b.waiting r nobody).seats ≡ 3) × (length b.tokens ≤ 32)
 
--- the same, said of the books of the tokens that a machine moves
+-- the same of books b, whose tokens machine m moves
 module _ (m : Machine) (b : Books) where
+  -- the books have room for all that the machine's derivation needs
   abbrev pub FitFor : Type 0
   FitFor = Fit (vec_items m.types) (vec_items m.rows) (books_of b)
 
+  -- wire w has come to p
   abbrev pub settled_in : ℕ → Place → Kept
   settled_in w p = settled (vec_items m.types) (vec_items m.rows) (books_of b) w p
 
+  -- wire w goes on
   abbrev pub stepped_in : ℕ → Kept
   stepped_in w = stepped (vec_items m.types) (vec_items m.rows) (books_of b) w
 
+  -- the wires at the first n seats of row r go on together
   abbrev pub passed_in : ℕ → ℕ → Kept
   passed_in r n = passed (vec_items m.types) (vec_items m.rows) (books_of b) r n
 

@@ -27,7 +27,7 @@ use target::interface::Target;
 // Want of memory, whichever layer met it: a run tells it as its own.
 const NO_MEMORY: Refusal = Refusal::OutOfMemory(Layer::Run);
 
-// The set of wires 0 to n - 1.
+// The set of wires 0 to n - 1. There may be 32, and a shift by 32 is none.
 fn first_wires(n: u8) -> u32
     requires { n ≤ 32 }
     ensures { result ≡ first_wires n }
@@ -35,7 +35,8 @@ fn first_wires(n: u8) -> u32
     if n < 32 { (1u32 << n) - 1 } else { u32::MAX }
 }
 
-// The wires that start given, and those that start at a one row.
+// The wires that start given, and those that start at a one row. One pass makes both sets: a chain would go over the
+// starts once for each.
 fn start_sets(starts: &[Start]) -> (u32, u32)
     requires { length starts.now ≤ 32 }
     ensures { result ≡ (mask_l (map is_given starts.now), mask_l (map is_one starts.now)) }
