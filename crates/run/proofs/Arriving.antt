@@ -18,7 +18,7 @@ use Rattle.theory.specs.Tokens.{is_seat, seats}
 use Rattle.theory.proofs.Ways.{place-parts}
 use Rattle.run.specs.declared.books.Waiting.{Waiting}
 use Rattle.run.specs.Books.{Kept, nobody, sat, seat_of, settled}
-use Rattle.run.proofs.SetsOfWires.{and_true}
+use Rattle.std.proofs.Math.Bool.{and-true}
 use Rattle.run.proofs.Standing.{nowhere, placing, placing-here, placing_other, part_differs, Held, Can, Sits, Known, seat_of_facts, seat_of_is, full-held, held-full}
 
 -- a rule has at most three seats
@@ -258,7 +258,7 @@ module _ (es : List TypeEntry) (rows : List Row) (f : ℕ → Place) (w : ℕ) (
           gone v same = has-without b.ready w v ∙ and_right _ _ (not_from_true _ (eq-eqb v w same))
 
           stays : (v : ℕ) → (v ≡ w → ⊥) → has (without b.ready w) v ≡ has b.ready v
-          stays v other = has-without b.ready w v ∙ ap (λ c. has b.ready v && not c) (ne_eqb v w other) ∙ and_true (has b.ready v)
+          stays v other = has-without b.ready w v ∙ ap (λ c. has b.ready v && not c) (ne_eqb v w other) ∙ and-true (has b.ready v)
 
       -- so what is kept is right
       known-sat : Known es rows then (sat b row q.atom.0 (seats (rule_at rows row)) w)
@@ -280,7 +280,7 @@ module _ (es : List TypeEntry) (rows : List Row) (f : ℕ → Place) (w : ℕ) (
         cond_both (is_place es rows q && is_end es rows q) _ _ (Known es rows then)
         (λ d.
         known-plain plain (without b.ready w)
-        (λ v other. has-without b.ready w v ∙ ap (λ c. has b.ready v && not c) (ne_eqb v w other) ∙ and_true (has b.ready v))
+        (λ v other. has-without b.ready w v ∙ ap (λ c. has b.ready v && not c) (ne_eqb v w other) ∙ and-true (has b.ready v))
         (λ h. absurd (both_ways _ (has-without b.ready w w ∙ and_right _ _ (not_from_true _ (eq-eqb w w refl))) h))
         (λ h. absurd (both_ways _ h (and_parts (is_place es rows q) _ d).1)))
         (λ d.

@@ -1,6 +1,5 @@
 -- What the books' functions do is what is defined of them, and the books stay fit.
-use Rattle.std.proofs.Common.{◌≡◌, ℕ, ◌+◌, ◌-◌, ◌<◌, ◌≤◌, Bool, true, false, cond, ◌&&◌, eqb, List, length, get_or, take, drop, set, replicate, Some, None, Option, sym, refl, ap, ◌∙◌, ap₂, ⊎_elim, add-one, arith}
-use native.Mathlib.Nat.{sub-zero}
+use Rattle.std.proofs.Common.{◌≡◌, ℕ, ◌+◌, ◌<◌, ◌≤◌, Bool, true, false, cond, ◌&&◌, eqb, List, length, get_or, take, drop, set, replicate, Some, None, Option, sym, refl, ap, ◌∙◌, ⊎_elim, add-one, arith}
 use lib.Count.{ones}
 use Rattle.std.proofs.lemmas.List.{at_drop_more, get_or_read, get_or-replicate, get_or-set_same, get_or-set_other, length-replicate, length-set}
 use Rattle.std.proofs.lemmas.Bool.{cases_eq, cond-true, cond-false}
@@ -105,18 +104,17 @@ module _ (es : List TypeEntry) (rows : List Row) where
       (λ q. ap length (settled_tokens (record { tokens = set b.tokens w q; waiting = b.waiting; ready = b.ready }) w q) ∙ length-set b.tokens w q)
 
 -- the wires of a row whose entry was read
-wires_read : (xs : List Waiting) (r n : ℕ) (here : Waiting) → r < length xs → here ≡ get_or xs r here → take (n - 0) here.seats ≡ take n (get_or xs r nobody).seats
-wires_read xs r n here l e = ap₂ (λ (k : ℕ) (h : Waiting). take k h.seats) (sub-zero n) (get_or_read xs r here l e nobody)
+wires_read : (xs : List Waiting) (r n : ℕ) (here : Waiting) → r < length xs → here ≡ get_or xs r here → take n here.seats ≡ take n (get_or xs r nobody).seats
+wires_read xs r n here l e = ap (λ (h : Waiting). take n h.seats) (get_or_read xs r here l e nobody)
 
-pub wire_below : (xs : List Waiting) (r n k i : ℕ) (here : Waiting) → r < length xs → here ≡ get_or xs r here → all_below k (numbers_of (take n (get_or xs r nobody).seats)) ≡ true → i < length (take (n - 0) here.seats) → (get_or (take (n - 0) here.seats) i (record { 0 = 0 })).0 < k
-wire_below xs r n k i here l e f h = below_at k (take (n - 0) here.seats) i (record { 0 = 0 }) (ap (λ (ws : List Wire). all_below k (numbers_of ws)) (wires_read xs r n here l e) ∙ f) h
+pub wire_below : (xs : List Waiting) (r n k i : ℕ) (here : Waiting) → r < length xs → here ≡ get_or xs r here → all_below k (numbers_of (take n (get_or xs r nobody).seats)) ≡ true → i < length (take n here.seats) → (get_or (take n here.seats) i (record { 0 = 0 })).0 < k
+wire_below xs r n k i here l e f h = below_at k (take n here.seats) i (record { 0 = 0 }) (ap (λ (ws : List Wire). all_below k (numbers_of ws)) (wires_read xs r n here l e) ∙ f) h
 
--- a row whose entry was read, and read again to say that nobody waits there
-pub passed_by : (es : List TypeEntry) (rows : List Row) (b : Kept) (r n : ℕ) (here again : Waiting) → r < length b.waiting → here ≡ get_or b.waiting r here → again ≡ get_or b.waiting r again → stepped_all es rows (record { tokens = b.tokens; waiting = set b.waiting r (record { wires = 0; seats = again.seats }); ready = b.ready }) (numbers_of (take (n - 0) here.seats)) ≡ passed es rows b r n
+-- a row whose entry was read, where nobody waits any more
+pub passed_by : (es : List TypeEntry) (rows : List Row) (b : Kept) (r n : ℕ) (here : Waiting) → r < length b.waiting → here ≡ get_or b.waiting r here → stepped_all es rows (record { tokens = b.tokens; waiting = set b.waiting r (record { wires = 0; seats = here.seats }); ready = b.ready }) (numbers_of (take n here.seats)) ≡ passed es rows b r n
 unfolding passed
-passed_by es rows b r n here again l e f =
-    ap₂ (λ (h : Waiting) (ws : List Wire). stepped_all es rows (record { tokens = b.tokens; waiting = set b.waiting r (record { wires = 0; seats = h.seats }); ready = b.ready }) (numbers_of ws))
-    (get_or_read b.waiting r again l f nobody) (wires_read b.waiting r n here l e)
+passed_by es rows b r n here l e =
+    ap (λ (h : Waiting). stepped_all es rows (record { tokens = b.tokens; waiting = set b.waiting r (record { wires = 0; seats = h.seats }); ready = b.ready }) (numbers_of (take n h.seats))) (get_or_read b.waiting r here l e nobody)
 
 module _ (es : List TypeEntry) (rows : List Row) where
   -- nobody waits yet

@@ -1,8 +1,7 @@
 -- The move of a wire whose token is at a seat, as its call makes it.
-use Rattle.std.proofs.Common.{◌≡◌, ℕ, ◌+◌, ◌-◌, ◌^◌, ◌<◌, Bool, List, length, get_or, take, Some, None, Ok, Err, Result, sym, ap, ◌∙◌, subst, arith}
+use Rattle.std.proofs.Common.{◌≡◌, ℕ, ◌+◌, ◌^◌, ◌<◌, Bool, List, length, get_or, take, Some, None, Ok, Err, Result, vec_items, sym, ap, ◌∙◌, subst, arith}
 use mathlib.Core.Path.{subst⁻¹}
 use native.Mathlib.Numerals.{suc-eq-add-one}
-use native.Mathlib.Nat.{sub-zero}
 use lib.Count.{ones}
 use Rattle.basics.specs.declared.gate.Gate.{Gate as GateName}
 use Rattle.basics.specs.declared.refusal.Refusal.{Refusal}
@@ -10,14 +9,16 @@ use Rattle.basics.specs.declared.refusal.Refusal.TheVariants.{SeatEmpty}
 use Rattle.derivation.specs.declared.types.TypeEntry.{TypeEntry}
 use Rattle.derivation.specs.declared.rows.Row.{Row}
 use Rattle.derivation.specs.Accepted.{Accepted}
+use Rattle.derivation.proofs.AcceptedLaws.{accepted_from_valid}
 use Rattle.machine.specs.declared.machine.Seat.{Seat}
 use Rattle.machine.specs.Calls.{gate_at, seat_at}
 use Rattle.theory.specs.Tokens.{no_place}
 use Rattle.theory.proofs.Ways.{seat_no_end}
 use Rattle.target.specs.Interface.{View, applied_view, apply_fault, numbers_of}
 use Rattle.run.specs.declared.books.Waiting.{Waiting}
-use Rattle.run.specs.Answers.{MoveAnswers}
-use Rattle.run.specs.Books.{Kept, Right, Underway, nobody, passed}
+use Rattle.run.specs.declared.run.Run.{Run}
+use Rattle.run.specs.Answers.{MoveAnswers, stage_of}
+use Rattle.run.specs.Books.{Fit, Kept, Right, Underway, books_of, nobody, passed}
 use Rattle.run.specs.Calls.{Stage, move_of}
 use Rattle.run.proofs.FireFacts.{AtSeat, Full, at_seat, sitting}
 use Rattle.run.proofs.MoveAnswered.{refused_so}
@@ -26,14 +27,34 @@ use Rattle.run.proofs.MoveFacts.{books_fit}
 use Rattle.std.proofs.lemmas.List.{get_or_default}
 use Rattle.run.proofs.SeatParts.{seat_here}
 
-module _ (es : List TypeEntry) (rows : List Row) (a : Accepted es rows) (b : Kept) (n : ℕ) (under : Underway es rows b.tokens n) (kept : ∥ Right es rows b ∥₁) (w : ℕ) (l : w < length b.tokens)
-    (s : Seat) (at : seat_at es rows (get_or b.tokens w no_place) ≡ Some s) where
+-- a run, and one of its wires whose token is at seat s
+module _ (run : Run) (w : ℕ) (l : w < length (vec_items run.books.places)) (s : Seat)
+    (at : seat_at (vec_items run.machine.types) (vec_items run.machine.rows) (get_or (vec_items run.books.places) w no_place) ≡ Some s) where
+  abbrev es : List TypeEntry
+  es = vec_items run.machine.types
+
+  abbrev rows : List Row
+  rows = vec_items run.machine.rows
+
+  abbrev b : Kept
+  b = books_of run.books
+
+  abbrev n : ℕ
+  n = run.moves
+
+  a : Accepted es rows
+  a = accepted_from_valid es rows run.machine.accepted
+
   pub sits : AtSeat es rows b n w s
-  sits = at_seat es rows b n w a under kept l s at
+  sits = at_seat es rows b n w a run.reached run.kept l s at
+
+  -- the books are fit for one more pass
+  pub fit_now : Fit es rows b
+  fit_now = books_fit es rows a b n run.reached run.kept
 
   -- there is an entry for its row
   pub entry_in : s.row.0 < length b.waiting
-  entry_in = omega (arith, sits.row_in, (books_fit es rows a b n under kept).0)
+  entry_in = omega (arith, sits.row_in, fit_now.0)
 
   -- the entry of its row, as it was read
   module _ (x : Waiting) (is : x ≡ get_or b.waiting s.row.0 x) where
@@ -44,12 +65,12 @@ module _ (es : List TypeEntry) (rows : List Row) (a : Accepted es rows) (b : Kep
     full-so e = ap (λ (y : Waiting). ones y.wires) (sym own) ∙ e
 
     -- the wires at the seats, as they are handed over
-    handed : numbers_of (take (s.arity - 0) x.seats) ≡ sitting es rows b n w s
-    handed = ap (λ (k : ℕ). numbers_of (take k x.seats)) (sub-zero s.arity) ∙ ap (λ (y : Waiting). numbers_of (take s.arity y.seats)) own
+    handed : numbers_of (take s.arity x.seats) ≡ sitting es rows b n w s
+    handed = ap (λ (y : Waiting). numbers_of (take s.arity y.seats)) own
 
     module _ {S : Type 0} (takes : GateName → Bool) (applied : GateName → List ℕ → S → S) (v : View S) where
       abbrev before : Stage S
-      before = record { tokens = b.tokens; moves = n; target = v }
+      before = stage_of run v
 
       -- a seat is empty
       pub wait-answer : (ones x.wires ≡ s.arity → ⊥) → MoveAnswers (move_of takes applied es rows before w) before (Err (SeatEmpty (record { 0 = w }))) before
@@ -60,7 +81,7 @@ module _ (es : List TypeEntry) (rows : List Row) (a : Accepted es rows) (b : Kep
 
       module _ (all : ones x.wires ≡ s.arity) (g : GateName) (gate : gate_at rows s.row.0 ≡ Some g) where
         -- the target refuses
-        pub refuse-answer : (e : Refusal) → apply_fault takes v g (numbers_of (take (s.arity - 0) x.seats)) ≡ Some e → (after : View S) → after ≡ v
+        pub refuse-answer : (e : Refusal) → apply_fault takes v g (numbers_of (take s.arity x.seats)) ≡ Some e → (after : View S) → after ≡ v
             → MoveAnswers (move_of takes applied es rows before w) before (Err e) (record { tokens = b.tokens; moves = n; target = after })
         refuse-answer e fault after same =
             let seat = seat_here es rows (get_or b.tokens w no_place) s at in
@@ -69,8 +90,8 @@ module _ (es : List TypeEntry) (rows : List Row) (a : Accepted es rows) (b : Kep
             g seat (sits.ruled g gate) (sitting es rows b n w s) (sits.who (full-so all) g gate) e (ap (apply_fault takes v g) (sym handed) ∙ fault)))
 
         -- the gate fires
-        pub fire-answer : (c : Kept) → c ≡ passed es rows b s.row.0 s.arity → apply_fault takes v g (numbers_of (take (s.arity - 0) x.seats)) ≡ None
-            → (after : View S) → after ≡ applied_view applied v g (numbers_of (take (s.arity - 0) x.seats))
+        pub fire-answer : (c : Kept) → c ≡ passed es rows b s.row.0 s.arity → apply_fault takes v g (numbers_of (take s.arity x.seats)) ≡ None
+            → (after : View S) → after ≡ applied_view applied v g (numbers_of (take s.arity x.seats))
             → MoveAnswers (move_of takes applied es rows before w) before (Ok tt) (record { tokens = c.tokens; moves = n + 1; target = after })
         fire-answer c led fine after made =
             let seat = seat_here es rows (get_or b.tokens w no_place) s at in

@@ -25,5 +25,4 @@ pub mod FireFacts
 pub mod MoveAnswered
 pub mod FireAnswered
 pub mod SweepSteps
-pub mod Replays
 pub mod Guaranteed

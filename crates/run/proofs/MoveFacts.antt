@@ -22,7 +22,6 @@ use Rattle.theory.specs.Tokens.{Fired, advanced, is_seat, movable, no_place, sea
 use Rattle.theory.proofs.Assembled.{theory}
 use Rattle.theory.proofs.Basics.{none_some, same_some}
 use Rattle.theory.proofs.Progress.{move_facts}
-use Rattle.theory.proofs.Ways.{seat_no_end}
 use Rattle.target.specs.Interface.{numbers_of}
 use Rattle.run.specs.declared.books.Waiting.{Waiting}
 use Rattle.run.specs.Books.{Fit, Kept, Right, Underway, nobody, passed, stepped}
@@ -77,10 +76,6 @@ module _ (es : List TypeEntry) (rows : List Row) (a : Accepted es rows) (b : Kep
 
       abbrev here : Waiting
       here = get_or b.waiting row nobody
-
-      -- a seat is no end
-      pub seat-away : is_end es rows (get_or b.tokens w no_place) ≡ false
-      seat-away = seat_no_end es rows a (get_or b.tokens w no_place) seat
 
       pub seat-row : row < length rows
       seat-row = sure le_prop (λ fired run right. row_low es rows a b run right w l seat)

@@ -1,56 +1,27 @@
--- The steps of the loops that open makes: over the rows of a derivation, and over the starts of its wires.
-use Rattle.std.proofs.Common.{◌≡◌, ℕ, ◌+◌, ◌*◌, ◌%◌, ◌^◌, ◌<◌, ◌≤◌, Bool, true, false, cond, List, [], ◌∷◌, ◌++◌, map, length, get_or, take, drop, Some, None, sym, refl, ap, ◌∙◌, subst, ap₂, one-mul, add-one, arith}
+-- What open looks for over the rows of a derivation, and the steps of its loop over the starts of the wires.
+use Rattle.std.proofs.Common.{◌≡◌, ℕ, suc, ◌+◌, ◌*◌, ◌%◌, ◌^◌, ◌<◌, ◌≤◌, Bool, true, false, cond, not, List, [], ◌∷◌, ◌++◌, map, length, get_or, take, Some, Option, sym, refl, ap, ◌∙◌, subst, ap₂, one-mul, add-one, arith}
 use native.Mathlib.Nat.{two-pow-succ}
 use lib.Bits.{bit_or, or_shifted_r}
 use lib.Lanes.{mask_l}
 use lib.ListN.{length-map}
+use Rattle.std.specs.List.{position_from}
 use Rattle.std.proofs.lemmas.Nat.{one_shl}
 use Rattle.std.proofs.lemmas.Simd.{mask_l-lt}
-use Rattle.std.proofs.lemmas.List.{drop_all, drop_more, length-take-le, map_more}
-use Rattle.std.proofs.lemmas.Bool.{cond-true, cond-false}
+use Rattle.std.proofs.lemmas.List.{length-take-le, map_more}
 use Rattle.basics.specs.declared.gate.Gate.{Gate as GateName}
-use Rattle.derivation.specs.declared.rows.Rule.{Rule}
-use Rattle.derivation.specs.declared.rows.Rule.TheVariants.{Variable, Zero, One, Gate, Lambda, PairLambda, Apply, Pair}
 use Rattle.derivation.specs.declared.rows.Row.{Row}
-use Rattle.derivation.specs.Judgements.{rule_at}
-use Rattle.derivation.specs.Rows.{no_row}
 use Rattle.run.specs.Opening.{not_taken, walkable}
 
--- a rule that is no gate can be walked
-walked_other : (takes : GateName → Bool) (u : Rule) → ((g : GateName) → u ≡ Gate g → ⊥) → walkable takes u ≡ true
-walked_other takes Variable not-gate = refl
-walked_other takes Zero not-gate = refl
-walked_other takes One not-gate = refl
-walked_other takes (Gate g) not-gate = absurd (not-gate g refl)
-walked_other takes (Lambda p x) not-gate = refl
-walked_other takes (PairLambda p x y) not-gate = refl
-walked_other takes (Apply f a) not-gate = refl
-walked_other takes (Pair l r) not-gate = refl
-
--- the rows from r on
-module _ (takes : GateName → Bool) (rows : List Row) (r : ℕ) where
-  rows_next : r < length rows → not_taken takes r (drop r rows) ≡ cond (walkable takes (rule_at rows r)) (not_taken takes (r + 1) (drop (r + 1) rows)) (Some r)
-  rows_next h =
-      ap (not_taken takes r) (drop_more rows r no_row h)
-      ∙ ap (λ n. cond (walkable takes (rule_at rows r)) (not_taken takes n (drop (r + 1) rows)) (Some r)) (sym (add-one r))
-
-  -- a gate that is not taken is found
-  pub not_taken_here : (g : GateName) → r < length rows → rule_at rows r ≡ Gate g → false ≡ takes g → not_taken takes r (drop r rows) ≡ Some r
-  not_taken_here g h e no_code = rows_next h ∙ cond-false _ _ _ (ap (walkable takes) e ∙ sym no_code)
-
-  walked_next : r < length rows → walkable takes (rule_at rows r) ≡ true → not_taken takes r (drop r rows) ≡ not_taken takes (r + 1) (drop (r + 1) rows)
-  walked_next h e = rows_next h ∙ cond-true _ _ _ e
-
-  -- one that is taken is passed
-  pub taken_next : (g : GateName) → r < length rows → rule_at rows r ≡ Gate g → true ≡ takes g → not_taken takes r (drop r rows) ≡ not_taken takes (r + 1) (drop (r + 1) rows)
-  taken_next g h e code = walked_next h (ap (walkable takes) e ∙ sym code)
-
-  -- and so is any other rule
-  pub other_next : r < length rows → ((g : GateName) → rule_at rows r ≡ Gate g → ⊥) → not_taken takes r (drop r rows) ≡ not_taken takes (r + 1) (drop (r + 1) rows)
-  other_next h not-gate = walked_next h (walked_other takes (rule_at rows r) not-gate)
-
-  pub not_taken_end : length rows ≤ r → not_taken takes r (drop r rows) ≡ None
-  not_taken_end h = ap (not_taken takes r) (drop_all r rows h)
+-- the lowest row that cannot be walked, as a search from row r on finds it
+pub not_taken-found : (takes : GateName → Bool) (r : ℕ) (rows : List Row) → position_from (λ row. not (walkable takes row.rule)) r rows ≡ not_taken takes r rows
+not_taken-found takes r [] = refl
+not_taken-found takes r (row ∷ rows) =
+    ap (λ (k : ℕ). cond (not (walkable takes row.rule)) (Some r) (position_from (λ x. not (walkable takes x.rule)) k rows)) (add-one r)
+    ∙ swapped (walkable takes row.rule) (Some r) (not_taken-found takes (suc r) rows)
+  where
+    swapped : (b : Bool) (o : Option ℕ) {p q : Option ℕ} → p ≡ q → cond (not b) o p ≡ cond b q o
+    swapped true o e = e
+    swapped false o e = refl
 
 -- a list with one more bit has the mask with that bit above
 mask_push : (ms : List Bool) (b : Bool) → mask_l (ms ++ b ∷ []) ≡ cond b 1 0 * 2 ^ length ms + mask_l ms

@@ -6,7 +6,6 @@ use Rattle.std.proofs.lemmas.List.{length-append}
 use Rattle.basics.specs.declared.gate.Gate.{Gate}
 use Rattle.derivation.specs.declared.types.TypeEntry.{TypeEntry}
 use Rattle.derivation.specs.declared.rows.Row.{Row}
-use Rattle.derivation.specs.declared.rows.Place.{Place}
 use Rattle.derivation.specs.declared.rows.Start.{Start}
 use Rattle.derivation.specs.declared.rows.Start.TheVariants.{Given}
 use Rattle.derivation.specs.Accepted.{valid}
@@ -14,10 +13,8 @@ use Rattle.derivation.specs.Places.{given, wires}
 use Rattle.derivation.specs.Starts.{bit_starts, starts as how_started}
 use Rattle.derivation.proofs.AcceptedLaws.{accepted_from_valid}
 use Rattle.derivation.proofs.StartLaws.{length-bit-starts}
-use Rattle.theory.specs.Ports.{starts}
-use Rattle.target.specs.Interface.{View, begin_fault, begun_view}
-use Rattle.run.specs.Calls.{Stage}
-use Rattle.run.specs.Opening.{first_wires, given_set, is_given, is_one, ones_set, open_fault, opened, unfit, used_set}
+use Rattle.target.specs.Interface.{View, begin_fault}
+use Rattle.run.specs.Opening.{first_wires, given_set, is_given, is_one, ones_set, open_fault, unfit, used_set}
 
 -- no fault, and then none either
 both_none : {A : Type 0} (o p : Option A) → o ≡ None → p ≡ None → ◌≡◌ {A = Option A} (elim o [ Some e ↦ Some e | None ↦ p ]) None
@@ -49,7 +46,7 @@ module _ (es : List TypeEntry) (rows : List Row) where
         )
 
 -- a target that is asked for its width and its capacity, and then begins with the sets of a derivation
-module _ {S D : Type 0} (view : D → View S) (takes : Gate → Bool) (begun : ℕ → ℕ → ℕ → S → S) (es : List TypeEntry) (rows : List Row) (before asked after : D)
+module _ {S D : Type 0} (view : D → View S) (takes : Gate → Bool) (begun : ℕ → ℕ → ℕ → S → S) (es : List TypeEntry) (rows : List Row) (before asked : D)
     (same : asked ≡ before) (used gs os : ℕ) (of-used : used ≡ used_set es rows) (of-given : gs ≡ given_set es rows) (of_ones : os ≡ ones_set es rows) where
   -- begin does not refuse
   begins : begin_fault (view asked) used gs os ≡ None → begin_fault (view before) (used_set es rows) (given_set es rows) (ones_set es rows) ≡ None
@@ -58,10 +55,3 @@ module _ {S D : Type 0} (view : D → View S) (takes : Gate → Bool) (begun : �
   -- so open does not, if the target can take the run
   pub not_refused : None ≡ unfit es rows takes (view before) → begin_fault (view asked) used gs os ≡ None → open_fault es rows takes (view before) ≡ None
   not_refused fits e = both_none (unfit es rows takes (view before)) _ (sym fits) (begins e)
-
-  -- how run and target stand then
-  pub as_opened : (tokens : List Place) (n : ℕ) → tokens ≡ starts es rows → n ≡ 0 → view after ≡ begun_view begun (view asked) used gs os
-      → ◌≡◌ {A = Stage S} (record { tokens = tokens; moves = n; target = view after }) (opened es rows begun (view before))
-  as_opened tokens n t m e =
-      let target : view after ≡ begun_view begun (view before) (used_set es rows) (given_set es rows) (ones_set es rows) = e ∙ (λ i. begun_view begun (view (same i)) (of-used i) (of-given i) (of_ones i)) in
-      (λ i. record { tokens = t i; moves = m i; target = target i })

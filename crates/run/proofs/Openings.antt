@@ -9,16 +9,12 @@ use Rattle.derivation.specs.declared.rows.Rule.TheVariants.{Gate}
 use Rattle.derivation.specs.declared.rows.Row.{Row}
 use Rattle.derivation.specs.Judgements.{rule_at}
 use Rattle.derivation.specs.Places.{wires, gate_rows}
+use Rattle.derivation.proofs.FaultLaws.{cond_none}
 use Rattle.theory.proofs.Basics.{none_some}
 use Rattle.target.specs.Interface.{View}
 use Rattle.run.specs.Opening.{walkable, not_taken, open_fault, unfit}
 
--- where a refusal behind a test is none, the test failed, and so is what comes after
-pub under_none : {A : Type 0} (b : Bool) (x : A) (o : Option A) → cond b (Some x) o ≡ None → (b ≡ false) × (o ≡ None)
-under_none true x o e = absurd (none_some (sym e))
-under_none false x o e = (refl, e)
-
--- the same of a refusal that is looked for
+-- where a refusal that is looked for is none, none was found
 first_none : {A B : Type 0} (o : Option A) (x : A → B) (p : Option B) → ◌≡◌ {A = Option B} (elim o [ Some r ↦ Some (x r) | None ↦ p ]) None → o ≡ None
 first_none (Some r) x p e = absurd (none_some (sym e))
 first_none None x p e = refl
@@ -46,14 +42,14 @@ module _ {S : Type 0} (takes : GateName → Bool) (begun : ℕ → ℕ → ℕ �
 
   -- what is left once the width is enough
   narrow_none : cond (ltb v.capacity (gate_rows rows)) (Some (TooSmall (gate_rows rows))) (option_map (λ r. GateNotTaken (record { 0 = r })) (not_taken takes 0 rows)) ≡ None
-  narrow_none = (under_none (ltb v.width (wires es rows)) _ _ can_take).1
+  narrow_none = (cond_none (ltb v.width (wires es rows)) _ _ can_take).1
 
   -- the target has room for a gate of each gate row
   pub roomy : gate_rows rows ≤ v.capacity
-  roomy = ltb-false v.capacity (gate_rows rows) (under_none (ltb v.capacity (gate_rows rows)) _ _ narrow_none).0
+  roomy = ltb-false v.capacity (gate_rows rows) (cond_none (ltb v.capacity (gate_rows rows)) _ _ narrow_none).0
 
   -- the target takes the gate of each gate row
   pub taken : (r : ℕ) (g : GateName) → r < length rows → rule_at rows r ≡ Gate g → takes g ≡ true
   taken r g h e =
-      let all = mapped_none (not_taken takes 0 rows) _ (under_none (ltb v.capacity (gate_rows rows)) _ _ narrow_none).1 in
+      let all = mapped_none (not_taken takes 0 rows) _ (cond_none (ltb v.capacity (gate_rows rows)) _ _ narrow_none).1 in
       ap (walkable takes) (sym e) ∙ walked takes 0 rows all r h

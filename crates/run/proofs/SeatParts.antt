@@ -1,6 +1,7 @@
 -- What a seat that was found says of its place, and of the gate of its row.
-use Rattle.std.proofs.Common.{◌≡◌, ℕ, ◌<◌, Bool, true, false, cond, ◌&&◌, ltb, List, length, Some, None, sym, refl, ap, ◌∙◌}
+use Rattle.std.proofs.Common.{◌≡◌, ℕ, ◌<◌, true, ◌&&◌, ltb, List, length, Some, sym, ap, ◌∙◌}
 use Rattle.std.proofs.lemmas.Bool.{and_parts, cond-true, lt-ltb}
+use Rattle.std.proofs.lemmas.Option.{cond_some}
 use Rattle.basics.specs.declared.gate.Gate.{Gate as GateName}
 use Rattle.derivation.specs.declared.types.TypeEntry.{TypeEntry}
 use Rattle.derivation.specs.declared.rows.Rule.{Rule}
@@ -14,16 +15,12 @@ use Rattle.theory.specs.Ports.{is_place}
 use Rattle.theory.specs.Tokens.{is_seat, seats}
 use Rattle.theory.proofs.Basics.{none_some, same_some}
 
-found-under : {A : Type 0} (b : Bool) (x y : A) → cond b (Some x) None ≡ Some y → (b ≡ true) × (x ≡ y)
-found-under true x y e = (refl, same_some e)
-found-under false x y e = absurd (none_some e)
-
 module _ (es : List TypeEntry) (rows : List Row) (p : Place) (s : Seat) (e : seat_at es rows p ≡ Some s) where
   pub seat_here : is_seat es rows p ≡ true
-  seat_here = (and_parts (is_place es rows p) (is_seat es rows p) (found-under (is_place es rows p && is_seat es rows p) _ s e).0).1
+  seat_here = (and_parts (is_place es rows p) (is_seat es rows p) (cond_some (is_place es rows p && is_seat es rows p) _ s e).0).1
 
   pub seat_is : record { row = p.row; number = p.atom.0; arity = seats (rule_at rows p.row.0) } ≡ s
-  seat_is = (found-under (is_place es rows p && is_seat es rows p) _ s e).1
+  seat_is = (cond_some (is_place es rows p && is_seat es rows p) _ s e).1
 
 gate_in_lem : (rule : Rule) (g : GateName) → gate_in rule ≡ Some g → rule ≡ Gate g
 gate_in_lem Variable g e = absurd (none_some e)

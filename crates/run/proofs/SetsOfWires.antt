@@ -1,12 +1,14 @@
 -- Sets of wires as masks: when two are equal, the members of a mask made of tests, and counting members.
-use Rattle.std.proofs.Common.{◌≡◌, ℕ, zero, suc, ◌+◌, ◌*◌, ◌/◌, ◌%◌, ◌^◌, ◌<◌, ◌≤◌, Bool, true, false, cond, not, ◌&&◌, eqb, ◌⊎◌, List, get_or, sym, refl, ap, ◌∙◌, ap₂, inl, inr, ⊎_elim, lt_of_lt_of_le, div-one, add-one, one-add, arith, pow_mono}
+use Rattle.std.proofs.Common.{◌≡◌, ℕ, zero, suc, ◌/◌, ◌%◌, ◌^◌, ◌<◌, ◌≤◌, Bool, true, false, cond, not, ◌&&◌, eqb, ◌⊎◌, List, get_or, sym, refl, ap, ◌∙◌, ap₂, inl, inr, ⊎_elim, lt_of_lt_of_le, div-one, one-add, arith, pow_mono}
 use native.Mathlib.Nat.{div-eq_of_lt, two-pow-succ}
 use lib.Count.{ones, ones_step, ones-le}
 use lib.Dec.{eqb-zero-suc, eqb-suc-zero, eqb-suc-suc}
 use lib.Lanes.{mask_l}
-use Rattle.std.proofs.lemmas.Nat.{shr_below, shr-shr, div-add-mod', mod_below}
+use Rattle.std.proofs.lemmas.Nat.{shr-shr, mod_below}
 use Rattle.std.proofs.lemmas.Simd.{bit_mask_l}
 use Rattle.std.proofs.lemmas.Bool.{both_ways, and_parts, and_from, and_right, cases_lt, eqb-true, eqb-false, eq-eqb, ne_eqb, not-true, not_from_false}
+use Rattle.std.proofs.lemmas.Nat.Bits.{same_from_bits}
+use Rattle.std.proofs.Math.Bool.{and-true}
 use Rattle.derivation.specs.Sets.{has, without}
 use Rattle.derivation.proofs.SetLaws.{has_none, has-without}
 use Rattle.derivation.proofs.TreeLaws.{not_so}
@@ -44,17 +46,10 @@ same_digit (suc (suc u)) v hu hv e = absurd (omega arith)
 same_low : (a b : ℕ) → has a 0 ≡ has b 0 → a % 2 ≡ b % 2
 same_low a b e = same_digit (a % 2) (b % 2) (mod_below a 2 (omega arith)) (mod_below b 2 (omega arith)) (sym (has-low a) ∙ e ∙ has-low b)
 
-same_below : (n a b : ℕ) → a < 2 ^ n → b < 2 ^ n → ((z : ℕ) → has a z ≡ has b z) → a ≡ b
-same_below zero a b ha hb e = omega arith
-same_below (suc n) a b ha hb e =
-    let half : (z : ℕ) → has (a / 2) z ≡ has (b / 2) z = λ z. has_half a z ∙ e (suc z) ∙ sym (has_half b z) in
-    let high : a / 2 ≡ b / 2 = same_below n (a / 2) (b / 2) (shr_below a n 1 (rw add-one ha)) (shr_below b n 1 (rw add-one hb)) half in
-    sym (div-add-mod' a 2) ∙ ap₂ (λ (q r : ℕ). q * 2 + r) high (same_low a b (e 0)) ∙ div-add-mod' b 2
-
 -- masks with the same members are the same
 pub same_masks : (a b : ℕ) → ((z : ℕ) → has a z ≡ has b z) → a ≡ b
-same_masks a b e =
-    same_below (a + b) a b (lt_of_lt_of_le (two_pow_above a) (pow_mono {i = a} {j = a + b} (omega arith))) (lt_of_lt_of_le (two_pow_above b) (pow_mono {i = b} {j = a + b} (omega arith))) e
+unfolding has
+same_masks a b e = same_from_bits a b (λ z. same_digit (a / 2 ^ z % 2) (b / 2 ^ z % 2) (mod_below (a / 2 ^ z) 2 (omega arith)) (mod_below (b / 2 ^ z) 2 (omega arith)) (e z))
 
 one_bit : (b : Bool) → eqb (cond b 1 0) 1 ≡ b
 one_bit true = refl
@@ -65,15 +60,11 @@ pub has_mask : (ms : List Bool) (v : ℕ) → has (mask_l ms) v ≡ get_or ms v 
 unfolding has
 has_mask ms v = ap (λ n. eqb n 1) (bit_mask_l ms v) ∙ one_bit (get_or ms v false)
 
-pub and_true : (b : Bool) → (b && true) ≡ b
-and_true true = refl
-and_true false = refl
-
 -- a mask has one member more than without one of its members
 pub ones-without : (m v : ℕ) → has m v ≡ true → ones m ≡ suc (ones (without m v))
 ones-without m zero h =
     let half : without m 0 / 2 ≡ m / 2 = same_masks (without m 0 / 2) (m / 2)
-    (λ z. has_half (without m 0) z ∙ has-without m 0 (suc z) ∙ ap (λ b. has m (suc z) && not b) (eqb-suc-zero z) ∙ and_true (has m (suc z)) ∙ sym (has_half m z)) in
+    (λ z. has_half (without m 0) z ∙ has-without m 0 (suc z) ∙ ap (λ b. has m (suc z) && not b) (eqb-suc-zero z) ∙ and-true (has m (suc z)) ∙ sym (has_half m z)) in
     let odd : m % 2 ≡ 1 = eqb-true _ _ (sym (has-low m) ∙ h) in
     let even : without m 0 % 2 ≡ 0 % 2 = same_low (without m 0) 0 (has-without m 0 0 ∙ and_right (has m 0) false refl ∙ sym (has_none 0)) in
     omega (arith, ones_step m, ones_step (without m 0), ap ones half)
@@ -82,7 +73,7 @@ ones-without m (suc v) h =
     (λ z.
     has_half (without m (suc v)) z ∙ has-without m (suc v) (suc z)
     ∙ ap₂ (λ b c. b && not c) (sym (has_half m z)) (eqb-suc-suc z v) ∙ sym (has-without (m / 2) v z)) in
-    let low : without m (suc v) % 2 ≡ m % 2 = same_low (without m (suc v)) m (has-without m (suc v) 0 ∙ ap (λ b. has m 0 && not b) (eqb-zero-suc v) ∙ and_true (has m 0)) in
+    let low : without m (suc v) % 2 ≡ m % 2 = same_low (without m (suc v)) m (has-without m (suc v) 0 ∙ ap (λ b. has m 0 && not b) (eqb-zero-suc v) ∙ and-true (has m 0)) in
     omega (arith, ones_step m, ones_step (without m (suc v)), ap ones half, ones-without (m / 2) v (has_half m v ∙ h))
 
 -- the empty set has no members to count

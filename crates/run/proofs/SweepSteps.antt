@@ -1,11 +1,13 @@
 -- A sweep as a loop makes it: the moves made so far, and what a sweep with the rest of the budget does from there.
-use Rattle.std.proofs.Common.{◌≡◌, ℕ, suc, ◌+◌, ◌-◌, ◌<◌, ◌≤◌, Bool, List, Some, None, Ok, Err, Result, sym, refl, ap, ◌∙◌, subst, ⊎_elim, arith}
+use Rattle.std.proofs.Common.{◌≡◌, ℕ, suc, ◌+◌, ◌-◌, ◌<◌, ◌≤◌, Bool, List, Some, None, Option, Ok, Err, Result, sym, refl, ap, ◌∙◌, subst, ⊎_elim, arith}
 use mathlib.Core.Logic.{∥∥₁_elim}
 use native.Mathlib.Bridge.{le_prop}
 use native.Mathlib.Nat.{sub-zero, ℕ_set}
 use lib.Count.{count_trailing_zeros}
+use Rattle.std.specs.Option.{option_map}
 use Rattle.std.proofs.lemmas.Bool.{cases_lt}
 use Rattle.basics.specs.declared.gate.Gate.{Gate}
+use Rattle.basics.specs.declared.numbers.Wire.{Wire}
 use Rattle.basics.specs.declared.refusal.Refusal.{Refusal}
 use Rattle.derivation.specs.declared.types.TypeEntry.{TypeEntry}
 use Rattle.derivation.specs.declared.rows.Row.{Row}
@@ -77,6 +79,15 @@ made_as (Err e) s t u h = absurd h
 pub refused_as : {S : Type 0} (m : Result (Stage S) Refusal) (s t : Stage S) (f : Refusal) → MoveAnswers m s (Err f) t → (m ≡ Err f) × (t ≡ s)
 refused_as (Ok x) s t f h = absurd h
 refused_as (Err e) s t f (same, as_before) = (ap (λ (x : Refusal). Err x) (sym same), as_before)
+
+-- what is told of the lowest wire
+pub some_told : (o : Option ℕ) (w : Wire) → Some w ≡ option_map (λ n. record { 0 = n }) o → o ≡ Some w.0
+some_told (Some n) w e = cc
+some_told None w e = cc
+
+pub none_told : (o : Option ℕ) → ◌≡◌ {A = Option Wire} None (option_map (λ n. record { 0 = n }) o) → o ≡ None
+none_told (Some n) e = cc
+none_told None e = refl
 
 -- what is kept of the wires that can move says which one a sweep moves
 module _ (es : List TypeEntry) (rows : List Row) (b : Kept) (kept : ∥ Right es rows b ∥₁) where

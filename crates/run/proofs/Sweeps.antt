@@ -17,7 +17,7 @@ use Rattle.theory.proofs.Basics.{none_some, same_some}
 use Rattle.target.specs.Interface.{View}
 use Rattle.run.specs.Calls.{Stage, Swept, one_more, all_home, lowest_from, lowest, move_of, swept_out, sweep_of}
 use Rattle.run.specs.Opening.{open_fault}
-use Rattle.run.proofs.Openings.{under_none}
+use Rattle.derivation.proofs.FaultLaws.{cond_none}
 use Rattle.run.proofs.Going.{Going, cases_option, stepped, stepped-going, move-ok}
 
 module _ (es : List TypeEntry) (rows : List Row) where
@@ -42,8 +42,8 @@ module _ (es : List TypeEntry) (rows : List Row) where
   -- if none is found, none can
   none_from : (tokens : List Place) (k : ℕ) (ts : List Place) → lowest_from es rows tokens k ts ≡ None → (i : ℕ) → i < length ts → movable es rows tokens (get_or ts i no_place) ≡ false
   none_from tokens k [] e i h = absurd (omega arith)
-  none_from tokens k (t ∷ ts) e zero h = (under_none _ k _ e).0
-  none_from tokens k (t ∷ ts) e (suc i) h = none_from tokens (suc k) ts (under_none (movable es rows tokens t) k _ e).1 i (omega arith)
+  none_from tokens k (t ∷ ts) e zero h = (cond_none _ k _ e).0
+  none_from tokens k (t ∷ ts) e (suc i) h = none_from tokens (suc k) ts (cond_none (movable es rows tokens t) k _ e).1 i (omega arith)
 
   -- the same of all tokens
   pub none_found : (tokens : List Place) → lowest es rows tokens ≡ None → (w : ℕ) → w < length tokens → movable es rows tokens (get_or tokens w no_place) ≡ false

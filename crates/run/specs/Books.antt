@@ -10,6 +10,7 @@ use Rattle.theory.specs.Ports.{at, is_end, is_place, next, starts}
 use Rattle.theory.specs.Runs.{Reached}
 use Rattle.theory.specs.Tokens.{Fired, is_seat, movable, no_place, seats, stands_at, wire_at}
 use Rattle.target.specs.Interface.{numbers_of}
+use Rattle.machine.specs.declared.machine.Machine.{Machine}
 use Rattle.run.specs.declared.books.Books.{Books}
 use Rattle.run.specs.declared.books.Waiting.{Waiting}
 
@@ -75,6 +76,24 @@ module _ (es : List TypeEntry) (rows : List Row) where
   -- each row has room for three seats, and there are at most 32 wires
   abbrev pub Fit : Kept → Type 0
   Fit b = (length b.waiting ≡ length rows) × ((r : ℕ) → r < length rows → length (get_or b.waiting r nobody).seats ≡ 3) × (length b.tokens ≤ 32)
+
+-- the same of books b, whose tokens machine m moves
+module _ (m : Machine) (b : Books) where
+  -- the books have room for all that the machine's derivation needs
+  abbrev pub FitFor : Type 0
+  FitFor = Fit (vec_items m.types) (vec_items m.rows) (books_of b)
+
+  -- wire w has come to p
+  abbrev pub settled_in : ℕ → Place → Kept
+  settled_in w p = settled (vec_items m.types) (vec_items m.rows) (books_of b) w p
+
+  -- wire w goes on
+  abbrev pub stepped_in : ℕ → Kept
+  stepped_in w = stepped (vec_items m.types) (vec_items m.rows) (books_of b) w
+
+  -- the wires at the first n seats of row r go on together
+  abbrev pub passed_in : ℕ → ℕ → Kept
+  passed_in r n = passed (vec_items m.types) (vec_items m.rows) (books_of b) r n
 
 -- the set of the wires whose tokens pass a test
 abbrev pub wires_where : (Place → Bool) → List Place → ℕ

@@ -4,14 +4,15 @@ ghost use Rattle.std.specs.Prelude.{◌≡◌, ◌<◌, ◌≤◌, true, length,
 ghost use Rattle.derivation.specs.Sets.{only, union, without as removed};
 ghost use Rattle.derivation.specs.Rows.{all_below};
 ghost use Rattle.target.specs.Interface.{numbers_of};
-ghost use Rattle.run.specs.Books.{Fit, books_of, nobody, passed, sat, settled, start_books, stepped};
+ghost use Rattle.run.specs.Books.{FitFor, books_of, nobody, passed_in, sat, settled_in, start_books, stepped_in};
 
 use basics::numbers::Wire;
 use derivation::rows::Place;
 use machine::machine::{Machine, Seat};
 use std::alloc::{AllocError, Global};
 
-// The wires that wait at the seats of a row: all of them as a set, and by seat.
+// The wires that wait at the seats of a row: all of them as a set, and by seat. A list would need memory, and no move
+// allocates: no gate has more than three seats. The set says which of them are held.
 #[derive(Clone, Copy)]
 pub(crate) struct Waiting {
     pub(crate) wires: u32,
@@ -42,6 +43,8 @@ fn without(set: u32, w: Wire) -> u32
     set ^ (set & (1u32 << w.0))
 }
 
+// The machine stands beside the books, and `fit` ties them. It is asked of each step, and is no field of the books: if they
+// held the machine, `new` could not settle the wires over the starts that the machine lends.
 impl Books {
     // The books of tokens at their starts. The machine's derivation has so many rows.
     pub(crate) fn new(heap: Global, machine: &Machine, rows: usize) -> Result<Books, AllocError>
@@ -73,13 +76,12 @@ impl Books {
         requires seat { seat.number < 3 }
         ensures { books_of self.new ≡ sat (books_of self.old) seat.row.0 seat.number seat.arity w.0 }
     {
-        let r = seat.row.0 as usize;
-        let mut here = self.waiting[r];
+        let here = &mut self.waiting[seat.row.0 as usize];
         here.wires = with(here.wires, w);
         here.seats[seat.number as usize] = w;
-        self.waiting[r] = here;
-        self.ready = if here.wires.count_ones() == seat.arity as u32 {
-            self.ready | here.wires
+        let all = here.wires;
+        self.ready = if all.count_ones() == seat.arity as u32 {
+            self.ready | all
         } else {
             without(self.ready, w)
         };
@@ -88,8 +90,8 @@ impl Books {
     // Wire w's token has come to p: it waits at a seat, or is home, or can go on.
     fn settle(&mut self, machine: &Machine, w: Wire, p: Place)
         requires wire { w.0 < 32 }
-        requires fit { Fit machine.now.types.items machine.now.rows.items (books_of self.old) }
-        ensures { books_of self.new ≡ settled machine.now.types.items machine.now.rows.items (books_of self.old) w.0 p }
+        requires fit { FitFor machine.now self.old }
+        ensures { books_of self.new ≡ settled_in machine.now self.old w.0 p }
     {
         if let Some(seat) = machine.seat(p) {
             self.sit(seat, w);
@@ -103,8 +105,8 @@ impl Books {
     // Wire w's token goes on to the next place.
     pub(crate) fn step(&mut self, machine: &Machine, w: Wire)
         requires wire { w.0 < length self.old.places.items }
-        requires fit { Fit machine.now.types.items machine.now.rows.items (books_of self.old) }
-        ensures { books_of self.new ≡ stepped machine.now.types.items machine.now.rows.items (books_of self.old) w.0 }
+        requires fit { FitFor machine.now self.old }
+        ensures { books_of self.new ≡ stepped_in machine.now self.old w.0 }
     {
         let i = w.0 as usize;
         if let Some(q) = machine.next(self.places[i]) {
@@ -118,13 +120,13 @@ impl Books {
         requires row { seat.row.0 < length machine.now.rows.items }
         requires arity { seat.arity ≤ 3 }
         requires wires { all_below (length self.old.places.items) (numbers_of (take seat.arity (slice_index_or self.old.waiting.items seat.row.0 nobody).seats)) ≡ true }
-        requires fit { Fit machine.now.types.items machine.now.rows.items (books_of self.old) }
-        ensures { books_of self.new ≡ passed machine.now.types.items machine.now.rows.items (books_of self.old) seat.row.0 seat.arity }
+        requires fit { FitFor machine.now self.old }
+        ensures { books_of self.new ≡ passed_in machine.now self.old seat.row.0 seat.arity }
     {
-        let r = seat.row.0 as usize;
-        let wires = self.waiting[r].seats;
-        self.waiting[r].wires = 0;
-        for w in &wires[0..seat.arity as usize] {
+        let here = &mut self.waiting[seat.row.0 as usize];
+        here.wires = 0;
+        let wires = here.seats;
+        for w in &wires[..seat.arity as usize] {
             self.step(machine, *w);
         }
     }

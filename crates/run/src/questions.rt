@@ -13,12 +13,11 @@ impl Run {
     pub fn place(&self, w: Wire) -> Result<Place, Refusal>
         ensures { result ≡ place_of self.now.books.places.items w.0 }
     {
-        let i = w.0 as usize;
-        if i < self.books.places.len() {
-            Ok(self.books.places[i])
-        } else {
-            Err(Refusal::NoSuchWire(w))
-        }
+        self.books
+            .places
+            .get(w.0 as usize)
+            .copied()
+            .ok_or(Refusal::NoSuchWire(w))
     }
 
     // The moves since open.

@@ -1,16 +1,10 @@
 -- The loop over the starts: each wire joins the set of its start.
-use Rattle.std.proofs.Common.{ℕ, List, map, refl, ap, ◌∙◌, ap₂}
-use lib.Lanes.{mask_l}
-use Rattle.std.proofs.lemmas.List.{take_all}
+use Rattle.std.proofs.Common.{ap}
 use Rattle.derivation.specs.declared.rows.Start.TheVariants.{Given}
-use Rattle.derivation.specs.declared.rows.Start.{Start}
 use Rattle.run.specs.Opening.{is_given, is_one}
 use Rattle.run.proofs.OpenSteps.{mask_skip, mask_with}
 use Rattle.run.proofs.run.start_sets.Goals as goal
 use Rattle.run.proofs.run.start_sets.Goals.{in-Given, in-Zero, in-One}
-
-pub loop-w-init : goal.loop-w-init
-loop-w-init c = (refl, refl)
 
 pub loop-w-preserved : goal.loop-w-preserved
 loop-w-preserved c =
@@ -32,9 +26,3 @@ loop-w-preserved c =
         mask_with is_one xs w Given h c.requires c.loop-w.ones c.match-start.ones ones (ap is_one x.in-One.is) x.ones-is,
       )
     ]
-
-pub returns : goal.returns
-returns c =
-    let all = take_all c.loop-w.w c.args.starts.now c.loop-w-test.false in
-    let (given, ones) = c.loop-w.invariant in
-    ap₂ (λ (a b : ℕ). (a, b)) (given ∙ ap (λ (xs : List Start). mask_l (map is_given xs)) all) (ones ∙ ap (λ (xs : List Start). mask_l (map is_one xs)) all)

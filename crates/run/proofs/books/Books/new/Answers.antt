@@ -1,8 +1,5 @@
 -- One step: the next wire settles, and the rest are left to settle. A derivation that passed all checks has at most 32 wires.
-use Rattle.std.proofs.Common.{◌≡◌, ◌+◌, ◌≤◌, List, length, get_or, drop, replicate, vec_items, sym, refl, ap, ◌∙◌, subst, ap₂, arith}
-use Rattle.std.proofs.lemmas.List.{at_drop_all}
-use Rattle.derivation.specs.declared.rows.Place.{Place}
-use Rattle.theory.specs.Ports.{starts}
+use Rattle.std.proofs.Common.{◌≡◌, ◌+◌, ◌≤◌, List, length, get_or, drop, replicate, vec_items, sym, refl, ap, ◌∙◌, subst, arith}
 use Rattle.theory.specs.Tokens.{no_place}
 use Rattle.machine.proofs.StartTables.{starts-few}
 use Rattle.run.specs.declared.books.Waiting.{Waiting}
@@ -22,8 +19,8 @@ nobody_waits c = c.in_ok-waiting.ensures.items_if_clones_equal (λ y e. e) ∙ a
 pub overflow_cast-w : goal.overflow_cast-w
 overflow_cast-w c = omega (arith, few (goal.at.overflow_cast-w c).In_ok-waiting)
 
-pub settle-requires : goal.settle-requires
-settle-requires c = record { wire = omega (arith, few (goal.at.settle-requires c).In_ok-waiting); fit = c.loop-w.invariant.1 }
+pub settle-requires-clause-wire : goal.settle-requires-clause-wire
+settle-requires-clause-wire c = omega (arith, few (goal.at.settle-requires-clause-wire c).In_ok-waiting)
 
 pub loop-w-init : goal.loop-w-init
 loop-w-init c =
@@ -46,14 +43,3 @@ loop-w-preserved c =
           ∙ c.loop-w.invariant.0,
       subst (λ (k : Kept). Fit es rows k) (sym c.settle.ensures) (settled_fit es rows b w (get_or ps w no_place) c.loop-w.invariant.1),
     )
-
-pub returns : goal.returns
-returns c =
-    let es = vec_items c.args.machine.now.types in
-    let rows = vec_items c.args.machine.now.rows in
-    let ps = c.starts-starts.result.now in
-    let copied : vec_items c.in_ok-places.places ≡ starts es rows = c.in_ok-places.ensures.items ∙ c.starts-starts.ensures in
-    let begun = ap₂ (λ (ts : List Place) (ws : List Waiting). record { tokens = ts; waiting = ws; ready = 0 }) copied (nobody_waits (goal.at.returns c).In_ok-waiting) in
-    sym (at_drop_all (λ (qs : List Place). settled_from es rows (books_of c.loop-w.books) c.loop-w.w qs) ps c.loop-w.w c.loop-w-test.false)
-    ∙ c.loop-w.invariant.0
-    ∙ ap₂ (λ (k : Kept) (qs : List Place). settled_from es rows k 0 qs) begun c.starts-starts.ensures

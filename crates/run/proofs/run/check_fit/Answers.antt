@@ -2,7 +2,7 @@
 use Rattle.std.proofs.Common.{◌≤◌, List, length, vec_items, sym, subst}
 use Rattle.derivation.specs.declared.rows.Row.{Row}
 use Rattle.derivation.proofs.AcceptedLaws.{accepted_from_valid}
-use Rattle.run.proofs.run.open_fault.Goals as goal
+use Rattle.run.proofs.run.check_fit.Goals as goal
 
 pub gate_not_taken-requires : goal.gate_not_taken-requires
 gate_not_taken-requires g c =
