@@ -3,7 +3,7 @@ ghost use Rattle.std.specs.Prelude.{◌≡◌};
 ghost use Rattle.basics.specs.Gates.{arity as arity_of, code as code_of, gate_of, word as word_of};
 
 // The last seat of cx and ccx is flipped; the other seats are controls.
-#[derive(Clone, Copy, PartialEq, Eq)]
+#[derive(Clone, Copy, Debug, PartialEq, Eq)]
 pub enum Gate {
     H,
     S,
