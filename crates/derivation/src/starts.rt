@@ -13,10 +13,11 @@ use std::alloc::Global;
 fn bit_starts(heap: Global, rows: &[Row]) -> Result<Vec<Start>, Refusal>
     ensures { MatchResult result (λ v. v.items ≡ bit_starts rows.now) (λ e. e ≡ OutOfMemory Bytes) }
 {
-    Ok(rows
-        .iter()
-        .filter_map(|row| row.rule.start())
-        .collect(heap)?)
+    Ok(
+        rows.iter()
+            .filter_map(|row| row.rule.start())
+            .collect(heap)?,
+    )
 }
 
 // How each of the wires starts: those that no zero or one row starts are given, and come first.
