@@ -1,5 +1,5 @@
 // How the wires of a derivation start.
-ghost use Rattle.std.specs.Prelude.{◌≡◌, ◌-◌, ◌≤◌, ◌++◌, length, replicate, MatchResult};
+ghost use Rattle.std.specs.Prelude.{◌≡◌, ◌-◌, ◌≤◌, ◌++◌, length, replicate, IfOk, MatchResult};
 ghost use Rattle.derivation.specs.Starts.{bit_starts};
 ghost use Rattle.basics.specs.declared.refusal.Layer.TheVariants.{Bytes};
 ghost use Rattle.basics.specs.declared.refusal.Refusal.TheVariants.{OutOfMemory};
@@ -7,17 +7,13 @@ ghost use Rattle.derivation.specs.declared.rows.Start.TheVariants.{Given};
 
 use crate::rows::{Row, Start};
 use basics::refusal::Refusal;
-use std::alloc::Global;
+use std::alloc::{AllocError, Global};
 
 // How the wires of the zero and one rows start, by rising row.
-fn bit_starts(heap: Global, rows: &[Row]) -> Result<Vec<Start>, Refusal>
-    ensures { MatchResult result (λ v. v.items ≡ bit_starts rows.now) (λ e. e ≡ OutOfMemory Bytes) }
+fn bit_starts(heap: Global, rows: &[Row]) -> Result<Vec<Start>, AllocError>
+    ensures { IfOk result (λ v. v.items ≡ bit_starts rows.now) }
 {
-    Ok(
-        rows.iter()
-            .filter_map(|row| row.rule.start())
-            .collect(heap)?,
-    )
+    rows.iter().filter_map(|row| row.rule.start()).collect(heap)
 }
 
 // How each of the wires starts: those that no zero or one row starts are given, and come first.
