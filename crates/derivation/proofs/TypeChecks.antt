@@ -72,12 +72,12 @@ module _ (ds : List TypeEntry) (e : TypeEntry) (k : ℕ) (number : k ≡ suc (le
 
 -- the two answers of a test
 some_below : {A : Type 0} (b : Bool) (s x : A) → Some s ≡ cond b None (Some x) → (b ≡ false) × (s ≡ x)
-some_below true s x e = let z : ◌≡◌ {A = ℕ} 0 1 = cc in absurd (omega arith)
+some_below true s x e = (cc, cc)
 some_below false s x e = (refl, cc)
 
 none_above : {A : Type 0} (b : Bool) (x : A) → None ≡ cond b None (Some x) → b ≡ true
 none_above true x e = refl
-none_above false x e = let z : ◌≡◌ {A = ℕ} 0 1 = cc in absurd (omega arith)
+none_above false x e = cc
 
 -- the same by the sizes of the entries before e
 module _ (ds : List TypeEntry) (e : TypeEntry) (k : ℕ) (number : k ≡ suc (length ds)) (left : e.left.0 < k) (right : e.right.0 < k) (sizes : List Size) (d : Size) (sized : sizes ≡ map size_of (trees ds)) where

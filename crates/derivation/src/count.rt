@@ -38,7 +38,7 @@ pub(crate) fn mate_count(rows: &[Row]) -> u32
 }
 
 // Rows whose types are known, with the sizes of the types, by which wires and places are counted.
-// No count reads the types themselves: they say what the sizes are of.
+// No count reads the types. They say what the sizes are of, which a ghost field, a fact and no list, could not.
 #[derive(Clone, Copy)]
 pub(crate) struct Measured<'a> {
     pub(crate) types: &'a [TypeEntry],
@@ -76,6 +76,7 @@ impl Measured<'_> {
     {
         let last = self.size(self.rows[self.rows.len() - 1].ty);
         let mut count = (last.atoms - last.positive) as u32;
+        // A loop: under a chain's `sum`, what `size` requires of each row is not proved.
         for (x, row) in self.rows.iter().enumerate() {
             if has(env, x as u8) {
                 count += self.size(row.ty).positive as u32;
@@ -120,7 +121,7 @@ impl Measured<'_> {
         requires { Accepted self.now.types.now self.now.rows.now }
         ensures { result ≡ length (places_of self.now.types.now self.now.rows.now) }
     {
-        // An array for as many rows as there can be, and no Vec: this call needs no memory and cannot fail.
+        // An array as long as the most rows, and no Vec: this call needs no memory and cannot fail.
         let mut held = [0; 128];
         let mut count = 0;
         for (r, row) in self.rows.iter().enumerate() {
