@@ -13,30 +13,6 @@ use crate::sets::has;
 use crate::types::{Size, TypeEntry};
 use basics::numbers::{RowId, TypeId};
 
-// The number of zero and one rows.
-fn bit_count(rows: &[Row]) -> u8
-    requires { length rows.now ≤ 128 }
-    ensures { result ≡ length (bits rows.now) }
-{
-    rows.iter().filter(|row| row.rule.is_bit()).count() as u8
-}
-
-// The number of gate rows.
-pub(crate) fn gate_count(rows: &[Row]) -> u8
-    requires { length rows.now ≤ 128 }
-    ensures { result ≡ gate_rows rows.now }
-{
-    rows.iter().filter(|row| row.rule.is_gate()).count() as u8
-}
-
-// The tokens that gates move together, less one for each gate.
-pub(crate) fn mate_count(rows: &[Row]) -> u32
-    requires { length rows.now ≤ 128 }
-    ensures { result ≡ all_mates rows.now }
-{
-    rows.iter().map(|row| row.rule.mates() as u32).sum()
-}
-
 // Rows whose types are known, with the sizes of the types, by which wires and places are counted.
 // No count reads the types. They say what the sizes are of, which a ghost field, a fact and no list, could not.
 #[derive(Clone, Copy)]
@@ -85,12 +61,33 @@ impl Measured<'_> {
         count
     }
 
+    // The number of zero and one rows.
+    fn bits(&self) -> u8
+        ensures { result ≡ length (bits self.now.rows.now) }
+    {
+        self.rows.iter().filter(|row| row.rule.is_bit()).count() as u8
+    }
+
     // The number of wires: negative places of the last row, whose environment is env, and the zero and one rows.
     pub(crate) fn wires(&self, env: u128) -> u32
         requires { env ≡ env_at self.now.rows.now (length self.now.rows.now - 1) }
         ensures { result ≡ wires_of self.now.types.now self.now.rows.now }
     {
-        self.given(env) + bit_count(self.rows) as u32
+        self.given(env) + self.bits() as u32
+    }
+
+    // The number of gate rows.
+    pub(crate) fn gates(&self) -> u8
+        ensures { result ≡ gate_rows self.now.rows.now }
+    {
+        self.rows.iter().filter(|row| row.rule.is_gate()).count() as u8
+    }
+
+    // The tokens that gates move together, less one for each gate.
+    pub(crate) fn mates(&self) -> u32
+        ensures { result ≡ all_mates self.now.rows.now }
+    {
+        self.rows.iter().map(|row| row.rule.mates() as u32).sum()
     }
 
     // The atoms in the environment of row r, by those of the rows before it.

@@ -13,7 +13,7 @@ ghost use Rattle.basics.specs.declared.refusal.Refusal.TheVariants.{OutOfMemory}
 
 use crate::bytes::{Parsed, parse};
 use crate::check::{Checked, check_rows, unused_row};
-use crate::count::{Measured, gate_count, mate_count};
+use crate::count::Measured;
 use crate::rows::{Row, Rule, Start};
 use crate::starts::wire_starts;
 use crate::types::{Size, TypeEntry, type_sizes};
@@ -67,10 +67,10 @@ fn counted(
     let places = measured.places();
     Ok(Counts {
         wires: wires as u8,
-        gates: gate_count(rows),
+        gates: measured.gates(),
         moves: places
             .saturating_sub(wires)
-            .saturating_sub(mate_count(rows)),
+            .saturating_sub(measured.mates()),
     })
 }
 
