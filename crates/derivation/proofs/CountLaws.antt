@@ -1,16 +1,35 @@
--- The given wires, one row at a time.
-use Rattle.std.proofs.Common.{◌≡◌, ℕ, ◌+◌, ◌-◌, ◌≤◌, true, false, cond, List, length, ap, add-one, arith}
+-- Counts over the rows, one row at a time.
+use Rattle.std.proofs.Common.{◌≡◌, ℕ, ◌+◌, ◌-◌, ◌<◌, ◌≤◌, Bool, true, false, cond, List, length, get_or, take, sum_by, sym, refl, ap, ◌∙◌, add-one, arith}
 use mathlib.Core.Path.{subst⁻¹}
+use Rattle.std.proofs.lemmas.List.Recursion.{is_sum_by}
+use Rattle.std.proofs.lemmas.List.Sums.{length-filter, sum_by_more}
 use Rattle.derivation.specs.declared.rows.Row.{Row}
 use Rattle.derivation.specs.declared.types.Size.{Size}
 use Rattle.derivation.specs.declared.types.TypeEntry.{TypeEntry}
 use Rattle.derivation.specs.Judgements.{env_at, tree_at}
-use Rattle.derivation.specs.Places.{given}
+use Rattle.derivation.specs.Places.{all_mates, given, keep, mates}
 use Rattle.derivation.specs.Sets.{has}
 use Rattle.derivation.specs.Trees.{Tree, atoms}
 use Rattle.derivation.specs.Weights.{positives, size_of, weight}
 use Rattle.derivation.proofs.PlaceLaws.{length-given}
 use Rattle.derivation.proofs.WeightLaws.{positives_le}
+
+-- one element more
+pub kept_more : {A : Type 0} (t : A → Bool) (xs : List A) (i : ℕ) (d : A) → i < length xs
+    → length (keep t (take (i + 1) xs)) ≡ length (keep t (take i xs)) + cond (t (get_or xs i d)) 1 0
+kept_more t xs i d h =
+    length-filter t (take (i + 1) xs)
+    ∙ sum_by_more (λ x. cond (t x) 1 0) xs i d h
+    ∙ ap (λ n. n + cond (t (get_or xs i d)) 1 0) (sym (length-filter t (take i xs)))
+
+pub mates-sum : (rows : List Row) → all_mates rows ≡ sum_by (λ row. mates row.rule) rows
+mates-sum = is_sum_by all_mates (λ (row : Row). mates row.rule) refl (λ _ _. refl)
+
+pub mates-more : (rows : List Row) (i : ℕ) (d : Row) → i < length rows → all_mates (take (i + 1) rows) ≡ all_mates (take i rows) + mates (get_or rows i d).rule
+mates-more rows i d h =
+    mates-sum (take (i + 1) rows)
+    ∙ sum_by_more (λ (row : Row). mates row.rule) rows i d h
+    ∙ ap (λ n. n + mates (get_or rows i d).rule) (sym (mates-sum (take i rows)))
 
 -- a size has no more positive atoms than atoms
 pub size_fits : (s : Size) (t : Tree) → s ≡ size_of t → s.positive ≤ s.atoms

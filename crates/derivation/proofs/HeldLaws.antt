@@ -54,7 +54,7 @@ pub places_none : (es : List TypeEntry) (rows : List Row) → 0 ≡ places_to es
 unfolding places_to
 places_none es rows = refl
 
-places-more : (es : List TypeEntry) (rows : List Row) (n : ℕ) → places_to es rows (n + 1) ≡ places_to es rows n + (held_at es rows n + atoms (tree_at es rows n))
+pub places-more : (es : List TypeEntry) (rows : List Row) (n : ℕ) → places_to es rows (n + 1) ≡ places_to es rows n + (held_at es rows n + atoms (tree_at es rows n))
 unfolding places_to
 places-more es rows n = ap (places_to es rows) (add-one n)
 
@@ -67,7 +67,7 @@ module _ (es : List TypeEntry) (rows : List Row) (ok : Accepted es rows) where
   abbrev width : ℕ → ℕ
   width x = atoms (tree_at es rows x)
 
-  width_le : (x : ℕ) → x < length rows → width x ≤ 16
+  pub width_le : (x : ℕ) → x < length rows → width x ≤ 16
   width_le x h = ok.table.small (type_at rows x) (ok.known x h)
 
   pub held_le : (r : ℕ) → held_at es rows r ≤ 2048
