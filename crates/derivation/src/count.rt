@@ -65,6 +65,7 @@ impl Measured<'_> {
     fn bits(&self) -> u8
         ensures { result ≡ length (bits self.now.rows.now) }
     {
+        // A chain here and in `gates`: a function that both share, with the test as a closure, would be no shorter.
         self.rows.iter().filter(|row| row.rule.is_bit()).count() as u8
     }
 

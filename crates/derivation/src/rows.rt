@@ -83,6 +83,7 @@ pub struct Row {
 }
 
 // A row as its bytes have it, not yet checked. A gate row with an unknown gate code has no rule.
+// No function serves both rows and records, so one generic struct for them would be no plainer.
 #[derive(Clone, Copy, Debug, PartialEq, Eq)]
 pub struct Record {
     pub ty: TypeId,

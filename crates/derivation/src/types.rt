@@ -78,6 +78,7 @@ pub(crate) fn type_sizes(heap: Global, types: &[TypeEntry]) -> Result<Vec<Size>,
         atoms: 1,
         positive: 1,
     })?;
+    // A loop, and no chain: each size is made from those before it, and the first fault ends it.
     for (i, entry) in types.iter().enumerate() {
         let size = entry_size(&types[..i], sizes.as_slice(), *entry)?;
         sizes.push(size)?;
