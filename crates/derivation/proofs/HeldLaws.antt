@@ -12,7 +12,8 @@ use Rattle.derivation.specs.declared.rows.Rule.TheVariants.{Variable, Zero, One,
 use Rattle.derivation.specs.Trees.{atoms}
 use Rattle.derivation.specs.Rows.{premises, binders, introduced, all_below, type_at}
 use Rattle.derivation.specs.Judgements.{rule_at, tree_at, env_at}
-use Rattle.derivation.specs.Weights.{sum_to, weight}
+use Rattle.derivation.specs.declared.types.Size.{Size}
+use Rattle.derivation.specs.Weights.{size_of, sum_to, weight}
 use Rattle.derivation.specs.Places.{places}
 use Rattle.derivation.specs.Accepted.{Accepted}
 use Rattle.derivation.specs.Held.{held_at}
@@ -30,16 +31,13 @@ held_more es rows held r n h e before =
 pub record Bound (es : List TypeEntry) (rows : List Row) (held : List ℕ) (r : ℕ) (p x : RowId) : Type 0 where
   pub premise : p.0 < r
   pub within : x.0 < length rows
-  pub known : type_at rows x.0 ≤ length es
   pub total : held_at es rows r + atoms (tree_at es rows x.0) ≡ get_or held p.0 0
 
 -- less the variables x and y
 pub record BothBound (es : List TypeEntry) (rows : List Row) (held : List ℕ) (r : ℕ) (p x y : RowId) : Type 0 where
   pub premise : p.0 < r
   pub within_x : x.0 < length rows
-  pub known_x : type_at rows x.0 ≤ length es
   pub within_y : y.0 < length rows
-  pub known_y : type_at rows y.0 ≤ length es
   pub total : held_at es rows r + atoms (tree_at es rows x.0) + atoms (tree_at es rows y.0) ≡ get_or held p.0 0
 
 -- row r holds what premises p and q do
@@ -76,6 +74,13 @@ module _ (es : List TypeEntry) (rows : List Row) (ok : Accepted es rows) where
   unfolding held_at
   held_le r = omega (arith, ok.few, weight-bound (env_at rows r) (length rows) 16 width width_le)
 
+  -- a row has at most 128 variables, and at most 16 atoms in each and in its type
+  pub row_adds : (r : ℕ) → r < length rows → (n : ℕ) → n ≡ held_at es rows r → (s : Size) → s ≡ size_of (tree_at es rows r)
+      → (places_to es rows r + (n + s.atoms) ≡ places_to es rows (r + 1)) × (n + s.atoms ≤ 2064)
+  row_adds r h n e s f =
+      let atoms-is = ap (λ (z : Size). z.atoms) f in
+      (omega (arith, places-more es rows r), omega (arith, held_le r, width_le r h))
+
   module _ (r : ℕ) (h : r < length rows) where
     -- what a row holds and binds is what it introduces and what its premises hold
     held-rule : (rule : Rule) → rule_at rows r ≡ rule
@@ -110,7 +115,6 @@ module _ (es : List TypeEntry) (rows : List Row) (ok : Accepted es rows) where
           record {
             premise = lower;
             within = omega arith;
-            known = ok.known x.0 (omega arith);
             total = omega (arith, before p.0 lower, held-rule (Lambda p x) e, weight_none width (length rows));
           }
 
@@ -123,9 +127,7 @@ module _ (es : List TypeEntry) (rows : List Row) (ok : Accepted es rows) where
           record {
             premise = lower;
             within_x = omega arith;
-            known_x = ok.known x.0 (omega arith);
             within_y = omega arith;
-            known_y = ok.known y.0 (omega arith);
             total = omega (arith, before p.0 lower, held-rule (PairLambda p x y) e, weight_none width (length rows));
           }
 

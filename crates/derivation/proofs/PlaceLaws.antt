@@ -3,6 +3,8 @@ use Rattle.std.proofs.Common.{◌≡◌, ℕ, zero, suc, ◌+◌, ◌-◌, ◌<�
 use native.Mathlib.Nat.{add-sub_cancel_left}
 use Rattle.std.specs.List.{flat_map}
 use Rattle.std.proofs.lemmas.List.{length-append, length-map, flat_map_more}
+use Rattle.std.proofs.lemmas.List.Concat.{flat_map_single}
+use Rattle.std.proofs.lemmas.List.Elements.{filter-append}
 use Rattle.std.proofs.lemmas.Bool.{lt-ltb, le-ltb}
 use Rattle.derivation.specs.declared.types.TypeEntry.{TypeEntry}
 use Rattle.derivation.specs.declared.rows.Row.{Row}
@@ -46,11 +48,6 @@ numbers-push k (suc n) = ap (λ l. k ∷ l) (numbers-push (suc k) n ∙ rw (suc-
 numbers_last : (n : ℕ) → numbers 0 (suc n) ≡ numbers 0 n ++ (n ∷ [])
 numbers_last n = numbers-push 0 n ∙ rw zero-add refl
 
--- a mapped list, as a join of lists of one
-map_joined : {A : Type 0} (g : ℕ → A) (xs : List ℕ) → map g xs ≡ flat_map (λ x. g x ∷ []) xs
-map_joined g [] = refl
-map_joined g (x ∷ xs) = ap (λ l. g x ∷ l) (map_joined g xs)
-
 -- what adds up over lists adds up over the numbers that make a list
 module _ {A : Type 0} (size : List A → ℕ) (none : size [] ≡ 0) (both : (xs ys : List A) → size (xs ++ ys) ≡ size xs + size ys) where
   pub size_joined : (F : ℕ → List A) (n : ℕ) → size (flat_map F (numbers 0 n)) ≡ sum_to (λ x. size (F x)) n
@@ -62,7 +59,7 @@ module _ {A : Type 0} (size : List A → ℕ) (none : size [] ≡ 0) (both : (xs
       ∙ ap (λ k. k + size (F n)) (size_joined F n)
 
   pub size-map : (g : ℕ → A) (n : ℕ) → size (map g (numbers 0 n)) ≡ sum_to (λ x. size (g x ∷ [])) n
-  size-map g n = ap size (map_joined g (numbers 0 n)) ∙ size_joined (λ x. g x ∷ []) n
+  size-map g n = ap size (sym (flat_map_single g (numbers 0 n))) ∙ size_joined (λ x. g x ∷ []) n
 
   -- the lists of the members of a set
   pub size_members : (m : ℕ) (F : ℕ → List A) (n : ℕ) → size (flat_map (λ x. cond (has m x) (F x) []) (numbers 0 n)) ≡ weight m (λ x. size (F x)) n
@@ -144,13 +141,7 @@ length-places es rows =
 
 -- what two lists keep
 pub length-keep-append : {A : Type 0} (t : A → Bool) (xs ys : List A) → length (keep t (xs ++ ys)) ≡ length (keep t xs) + length (keep t ys)
-length-keep-append t [] ys = sym (zero-add (length (keep t ys)))
-length-keep-append t (x ∷ xs) ys = go (t x) (length-keep-append t xs ys)
-  where
-    go : (b : Bool) → length (keep t (xs ++ ys)) ≡ length (keep t xs) + length (keep t ys)
-        → length (cond b (x ∷ keep t (xs ++ ys)) (keep t (xs ++ ys))) ≡ length (cond b (x ∷ keep t xs) (keep t xs)) + length (keep t ys)
-    go true ih = omega arith
-    go false ih = ih
+length-keep-append t xs ys = ap length (filter-append t xs ys) ∙ length-append (keep t xs) (keep t ys)
 
 -- the kept elements of a list that is made of numbers
 pub length-keep-map : {A : Type 0} (t : A → Bool) (g : ℕ → A) (n : ℕ) → length (keep t (map g (numbers 0 n))) ≡ count (λ i. t (g i)) n

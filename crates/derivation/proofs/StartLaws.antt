@@ -1,25 +1,16 @@
 -- Laws of how wires start.
-use Rattle.std.proofs.Common.{◌≡◌, ℕ, suc, ◌+◌, ◌-◌, ◌<◌, ◌≤◌, cond, List, [], ◌∷◌, ◌++◌, length, get_or, take, replicate, sym, refl, ap, ◌∙◌, ap₂, append_assoc, append-nil, arith}
-use Rattle.std.proofs.lemmas.List.{take_more}
+use Rattle.std.proofs.Common.{◌≡◌, ℕ, suc, ◌-◌, ◌≤◌, cond, List, [], ◌∷◌, ◌++◌, length, replicate, refl, ap, ap₂, arith}
+use Rattle.std.specs.List.{cons_option}
 use Rattle.derivation.specs.declared.rows.Row.{Row}
 use Rattle.derivation.specs.declared.rows.Rule.{Rule}
 use Rattle.derivation.specs.declared.rows.Rule.TheVariants.{Variable, Zero, One, Gate, Lambda, PairLambda, Apply, Pair}
 use Rattle.derivation.specs.declared.rows.Start.{Start}
 use Rattle.derivation.specs.declared.rows.Start.TheVariants.{Given}
 use Rattle.derivation.specs.declared.types.TypeEntry.{TypeEntry}
-use Rattle.derivation.specs.Starts.{starts_by, bit_starts, starts}
+use Rattle.derivation.specs.Starts.{start_of, bit_starts, starts}
 use Rattle.derivation.specs.Places.{is_bit, bits, given, wires}
 
-bit-starts-push : (rows : List Row) (row : Row) → bit_starts (rows ++ row ∷ []) ≡ bit_starts rows ++ starts_by row.rule
-bit-starts-push [] row = append-nil (starts_by row.rule)
-bit-starts-push (first ∷ rows) row = ap (λ (l : List Start). starts_by first.rule ++ l) (bit-starts-push rows row) ∙ sym (append_assoc (starts_by first.rule) (bit_starts rows) (starts_by row.rule))
-
--- one row more, which starts these
-pub bit-starts-more : (rows : List Row) (i : ℕ) (d : Row) {so_far these : List Start} → i < length rows → so_far ≡ bit_starts (take i rows) → these ≡ starts_by (get_or rows i d).rule
-    → so_far ++ these ≡ bit_starts (take (i + 1) rows)
-bit-starts-more rows i d h e s = ap₂ (λ (l m : List Start). l ++ m) e s ∙ sym (ap bit_starts (take_more rows i d h) ∙ bit-starts-push (take i rows) (get_or rows i d))
-
-starts-one : (rule : Rule) (row : Row) (ss : List Start) (rows : List Row) → length ss ≡ length rows → length (starts_by rule ++ ss) ≡ length (cond (is_bit rule) (row ∷ rows) rows)
+starts-one : (rule : Rule) (row : Row) (ss : List Start) (rows : List Row) → length ss ≡ length rows → length (cons_option (start_of rule) ss) ≡ length (cond (is_bit rule) (row ∷ rows) rows)
 starts-one Variable row ss rows e = e
 starts-one Zero row ss rows e = ap suc e
 starts-one One row ss rows e = ap suc e

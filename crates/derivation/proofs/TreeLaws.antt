@@ -1,6 +1,7 @@
 -- Laws of types as trees and of the type table: a table without a fault keeps its rules, and the tests of an entry say what its tree is.
 use Rattle.std.proofs.Common.{◌≡◌, ℕ, zero, suc, ◌+◌, ◌<◌, ◌≤◌, Bool, true, false, eqb, ltb, leb, List, [], ◌∷◌, length, get_or, take, None, sym, refl, ap, ◌∙◌, subst, ⊎_elim, arith}
 use Rattle.std.proofs.lemmas.List.{length-take-le, get_or-take, map-id}
+use Rattle.std.proofs.lemmas.List.Recursion.{or_from_places}
 use Rattle.std.proofs.lemmas.Bool.{and_parts, and_from, or_parts, or_from, both_ways, cond-false, cases_order, eqb-true, eq-eqb, leb-false, lt-leb, ltb-true, ltb-false, lt-ltb, le-ltb}
 use Rattle.derivation.specs.declared.types.TypeKind.{TypeKind}
 use Rattle.derivation.specs.declared.types.TypeKind.TheVariants.{Arrow, Pair}
@@ -10,7 +11,6 @@ use Rattle.derivation.specs.Rows.{is_node, left_part, right_part, is_power}
 use Rattle.derivation.specs.Accepted.{Table}
 use Rattle.derivation.proofs.GrowthLaws.{get_or-grown_front, get_or-grown, get_or-grown-take}
 use Rattle.derivation.proofs.FaultLaws.{cond_none, none_from, none_to}
-use Rattle.derivation.proofs.TypeChecks.{listed_false}
 
 -- a test that cannot pass fails
 pub not_so : (b : Bool) → (b ≡ true → ⊥) → b ≡ false
@@ -121,8 +121,8 @@ module _ (es : List TypeEntry) where
   fresh_to : Fresh es → (t : ℕ) → t < length es → listed (take t es) (entry es t) ≡ false
   fresh_to f t h =
       let n = length-take-le t es (omega arith) in
-      listed_false (take t es) (entry es t) no_entry
-      (λ s l. sym (ap (λ d. same_entry d (entry es t)) (get_or-take t es s no_entry (omega arith)) ∙ not_so _ (f s t (omega arith) h)))
+      or_from_places (λ ds. listed ds (entry es t)) (λ d. same_entry d (entry es t)) refl (λ _ _. refl) (take t es) no_entry
+      (λ s l. ap (λ d. same_entry d (entry es t)) (get_or-take t es s no_entry (omega arith)) ∙ not_so _ (f s t (omega arith) h))
 
   -- no entry stands in a table twice exactly if no two have one tree
   distinct_below : Lower es → Fresh es → (n s t : ℕ) → s < n → t < n → s ≤ length es → t ≤ length es → tree es s ≡ tree es t → s ≡ t

@@ -1,26 +1,44 @@
 -- What the code learns of a type table while it checks one entry.
-use Rattle.std.proofs.Common.{◌≡◌, ℕ, zero, suc, ◌+◌, ◌<◌, ◌≤◌, Bool, true, false, cond, ltb, List, [], ◌∷◌, ◌++◌, map, length, get_or, take, Some, None, Option, sym, refl, ap, ◌∙◌, subst, ap₂, arith}
+use Rattle.std.proofs.Common.{◌≡◌, ℕ, suc, ◌+◌, ◌<◌, ◌≤◌, Bool, true, false, cond, ◌&&◌, ◌||◌, eqb, ltb, List, [], ◌∷◌, ◌++◌, map, length, get_or, take, Some, None, Option, sym, refl, ap, ◌∙◌, subst, ap₂, arith}
 use mathlib.Core.Path.{subst⁻¹}
-use Rattle.std.proofs.lemmas.List.{get_or-map, length-map, map_push, take_more}
-use Rattle.std.proofs.lemmas.Bool.{or_left, or_right, or_from, lt-leb, le-ltb, lt-ltb, ltb-true, ltb-false}
+use Rattle.std.proofs.lemmas.List.{get_or_default, get_or-map, length-map, map_push, take_more}
+use Rattle.std.specs.List.{list_any}
+use Rattle.std.specs.Option.{ok_or}
+use Rattle.std.specs.Result.{MatchResult}
+use Rattle.std.proofs.lemmas.Bool.{lt-leb, le-ltb, lt-ltb, ltb-true, ltb-false}
 use Rattle.derivation.specs.declared.types.TypeKind.{TypeKind}
 use Rattle.derivation.specs.declared.types.TypeKind.TheVariants.{Arrow, Pair}
 use Rattle.derivation.specs.declared.types.TypeEntry.{TypeEntry}
 use Rattle.derivation.specs.declared.types.Size.{Size}
 use Rattle.basics.specs.declared.refusal.Refusal.TheVariants.{RepeatedType, TooManyAtoms}
-use Rattle.derivation.specs.Trees.{Tree, qubit, node, atoms, trees, unfolded, same_entry, listed, type_fault}
+use denote.Enum.Bare.{sameb}
+use Rattle.derivation.specs.contracts.types.TypeKind.{the_type as the_kinds}
+use Rattle.derivation.specs.Trees.{Tree, qubit, node, atoms, trees, unfolded, no_entry, same_kind, same_entry, listed, type_fault}
+use Rattle.derivation.specs.Rows.{is_node}
 use Rattle.derivation.specs.Weights.{size_of, joined_size}
 use Rattle.derivation.proofs.GrowthLaws.{length-grown, grown-push}
 use Rattle.derivation.proofs.WeightLaws.{positives_le}
 
-pub listed_true : (ds : List TypeEntry) (e d : TypeEntry) (k : ℕ) → k < length ds → true ≡ same_entry (get_or ds k d) e → listed ds e ≡ true
-listed_true [] e d k h same = absurd (omega arith)
-listed_true (x ∷ ds) e d zero h same = or_left (same_entry x e) (listed ds e) (sym same)
-listed_true (x ∷ ds) e d (suc k) h same = or_right (same_entry x e) (listed ds e) (listed_true ds e d k (omega arith) same)
+-- equal by the derived `==` is the same by the definition
+kind-eq : (j k : TypeKind) → sameb the_kinds j k ≡ same_kind j k
+kind-eq Arrow Arrow = refl
+kind-eq Arrow Pair = refl
+kind-eq Pair Arrow = refl
+kind-eq Pair Pair = refl
 
-pub listed_false : (ds : List TypeEntry) (e d : TypeEntry) → ((k : ℕ) → k < length ds → false ≡ same_entry (get_or ds k d) e) → listed ds e ≡ false
-listed_false [] e d other = refl
-listed_false (x ∷ ds) e d other = or_from (same_entry x e) (listed ds e) (sym (other 0 (omega arith))) (listed_false ds e d (λ k h. other (suc k) (omega arith)))
+pub entry-eq : (d e : TypeEntry) → (sameb the_kinds d.kind e.kind && (eqb d.left.0 e.left.0 && eqb d.right.0 e.right.0)) ≡ same_entry d e
+entry-eq d e = ap (λ b. b && (eqb d.left.0 e.left.0 && eqb d.right.0 e.right.0)) (kind-eq d.kind e.kind)
+
+-- entry t, compared by the derived `==`
+pub node-eq : (es : List TypeEntry) (t i : ℕ) (e d : TypeEntry) {b : Bool} → t ≡ suc i → i < length es
+    → b ≡ (sameb the_kinds (get_or es i d).kind e.kind && (eqb (get_or es i d).left.0 e.left.0 && eqb (get_or es i d).right.0 e.right.0))
+    → b ≡ is_node es e.kind t e.left.0 e.right.0
+node-eq es t i e d n h q = rw (n, lt-ltb i (length es) h) (q ∙ entry-eq (get_or es i d) e ∙ ap (λ x. same_entry x e) (get_or_default es i d no_entry h))
+
+-- what `contains` computes
+pub listed-any : (ds : List TypeEntry) (e : TypeEntry) → list_any (λ d. sameb the_kinds d.kind e.kind && (eqb d.left.0 e.left.0 && eqb d.right.0 e.right.0)) ds ≡ listed ds e
+listed-any [] e = refl
+listed-any (d ∷ ds) e = ap₂ ◌||◌ (entry-eq d e) (listed-any ds e)
 
 pub length-trees : (ds : List TypeEntry) → length (trees ds) ≡ suc (length ds)
 unfolding trees
@@ -41,32 +59,33 @@ atoms-node : (kind : TypeKind) (a c : Tree) → atoms (node kind a c) ≡ atoms 
 atoms-node Arrow a c = refl
 atoms-node Pair a c = refl
 
-module _ (ds : List TypeEntry) (e : TypeEntry) (left : e.left.0 < suc (length ds)) (right : e.right.0 < suc (length ds)) where
-  pub repeated : listed ds e ≡ true → type_fault ds e ≡ Some (RepeatedType (record { 0 = suc (length ds) }))
-  repeated l = rw (lt-leb (suc (length ds)) e.left.0 left, lt-leb (suc (length ds)) e.right.0 right, l) refl
+-- entry e behind ds, which is entry k and whose parts are lower
+module _ (ds : List TypeEntry) (e : TypeEntry) (k : ℕ) (number : k ≡ suc (length ds)) (left : e.left.0 < k) (right : e.right.0 < k) where
+  pub repeated : listed ds e ≡ true → type_fault ds e ≡ Some (RepeatedType (record { 0 = k }))
+  repeated l = rw (← number, lt-leb k e.left.0 left, lt-leb k e.right.0 right, l) refl
 
-  pub wide : listed ds e ≡ false → 16 < atoms (get_or (trees ds) e.left.0 qubit) + atoms (get_or (trees ds) e.right.0 qubit) → type_fault ds e ≡ Some (TooManyAtoms (record { 0 = suc (length ds) }))
-  wide l w = rw (lt-leb (suc (length ds)) e.left.0 left, lt-leb (suc (length ds)) e.right.0 right, l, atoms-node e.kind, lt-ltb 16 _ w) refl
+  wide : listed ds e ≡ false → 16 < atoms (get_or (trees ds) e.left.0 qubit) + atoms (get_or (trees ds) e.right.0 qubit) → type_fault ds e ≡ Some (TooManyAtoms (record { 0 = k }))
+  wide l w = rw (← number, lt-leb k e.left.0 left, lt-leb k e.right.0 right, l, atoms-node e.kind, lt-ltb 16 _ w) refl
 
-  pub fine : listed ds e ≡ false → atoms (get_or (trees ds) e.left.0 qubit) + atoms (get_or (trees ds) e.right.0 qubit) ≤ 16 → type_fault ds e ≡ None
-  fine l w = rw (lt-leb (suc (length ds)) e.left.0 left, lt-leb (suc (length ds)) e.right.0 right, l, atoms-node e.kind, le-ltb 16 _ w) refl
+  fine : listed ds e ≡ false → atoms (get_or (trees ds) e.left.0 qubit) + atoms (get_or (trees ds) e.right.0 qubit) ≤ 16 → type_fault ds e ≡ None
+  fine l w = rw (← number, lt-leb k e.left.0 left, lt-leb k e.right.0 right, l, atoms-node e.kind, le-ltb 16 _ w) refl
 
 -- the two answers of a test
 some_below : {A : Type 0} (b : Bool) (s x : A) → Some s ≡ cond b None (Some x) → (b ≡ false) × (s ≡ x)
-some_below true s x e = let z : ◌≡◌ {A = ℕ} 0 1 = cc in absurd (omega arith)
+some_below true s x e = (cc, cc)
 some_below false s x e = (refl, cc)
 
 none_above : {A : Type 0} (b : Bool) (x : A) → None ≡ cond b None (Some x) → b ≡ true
 none_above true x e = refl
-none_above false x e = let z : ◌≡◌ {A = ℕ} 0 1 = cc in absurd (omega arith)
+none_above false x e = cc
 
 -- the same by the sizes of the entries before e
-module _ (ds : List TypeEntry) (e : TypeEntry) (sizes : List Size) (d : Size) (sized : sizes ≡ map size_of (trees ds)) (left : e.left.0 < suc (length ds)) (right : e.right.0 < suc (length ds)) where
+module _ (ds : List TypeEntry) (e : TypeEntry) (k : ℕ) (number : k ≡ suc (length ds)) (left : e.left.0 < k) (right : e.right.0 < k) (sizes : List Size) (d : Size) (sized : sizes ≡ map size_of (trees ds)) where
   left-size : get_or sizes e.left.0 d ≡ size_of (get_or (trees ds) e.left.0 qubit)
-  left-size = size-at ds sizes sized e.left.0 d left
+  left-size = size-at ds sizes sized e.left.0 d (omega arith)
 
   right-size : get_or sizes e.right.0 d ≡ size_of (get_or (trees ds) e.right.0 qubit)
-  right-size = size-at ds sizes sized e.right.0 d right
+  right-size = size-at ds sizes sized e.right.0 d (omega arith)
 
   pub parts_fit : ((get_or sizes e.left.0 d).positive ≤ (get_or sizes e.left.0 d).atoms) × ((get_or sizes e.right.0 d).positive ≤ (get_or sizes e.right.0 d).atoms)
   parts_fit = (
@@ -74,21 +93,19 @@ module _ (ds : List TypeEntry) (e : TypeEntry) (sizes : List Size) (d : Size) (s
     subst⁻¹ (λ (s : Size). s.positive ≤ s.atoms) right-size (positives_le (get_or (trees ds) e.right.0 qubit)),
   )
 
-  abbrev Joins : Option Size → Type 0
-  Joins o = o ≡ cond (ltb 16 ((get_or sizes e.left.0 d).atoms + (get_or sizes e.right.0 d).atoms)) None (Some (joined_size e.kind (get_or sizes e.left.0 d) (get_or sizes e.right.0 d)))
-
   sum_is : (get_or sizes e.left.0 d).atoms + (get_or sizes e.right.0 d).atoms ≡ atoms (get_or (trees ds) e.left.0 qubit) + atoms (get_or (trees ds) e.right.0 qubit)
   sum_is = ap₂ (λ (a c : Size). a.atoms + c.atoms) left-size right-size
 
-  pub entry-fine : (s : Size) → listed ds e ≡ false → Joins (Some s) → (type_fault ds e ≡ None) × (s ≡ size_of (unfolded (trees ds) e))
-  entry-fine s l j =
+  -- the size of the entry, where its parts are joined, or that it has too many atoms
+  pub entry-sized : (o : Option Size) → listed ds e ≡ false
+      → o ≡ cond (ltb 16 ((get_or sizes e.left.0 d).atoms + (get_or sizes e.right.0 d).atoms)) None (Some (joined_size e.kind (get_or sizes e.left.0 d) (get_or sizes e.right.0 d)))
+      → MatchResult (ok_or o (TooManyAtoms (record { 0 = k }))) (λ s. (type_fault ds e ≡ None) × (s ≡ size_of (unfolded (trees ds) e))) (λ r. type_fault ds e ≡ Some r)
+  entry-sized (Some s) l j =
       let h = some_below _ s _ j in (
-        fine ds e left right l (subst (λ n. n ≤ 16) sum_is (ltb-false 16 _ h.0)),
+        fine ds e k number left right l (subst (λ n. n ≤ 16) sum_is (ltb-false 16 _ h.0)),
         h.1 ∙ ap₂ (λ (a c : Size). joined_size e.kind a c) left-size right-size ∙ sym (size-node e.kind (get_or (trees ds) e.left.0 qubit) (get_or (trees ds) e.right.0 qubit)),
       )
-
-  pub entry-wide : listed ds e ≡ false → Joins None → type_fault ds e ≡ Some (TooManyAtoms (record { 0 = suc (length ds) }))
-  entry-wide l j = wide ds e left right l (subst (λ n. 16 < n) sum_is (ltb-true 16 _ (none_above _ _ j)))
+  entry-sized None l j = wide ds e k number left right l (subst (λ n. 16 < n) sum_is (ltb-true 16 _ (none_above _ _ j)))
 
 pub trees-push : (ds : List TypeEntry) (e : TypeEntry) → trees (ds ++ e ∷ []) ≡ trees ds ++ (unfolded (trees ds) e ∷ [])
 unfolding trees

@@ -1,5 +1,6 @@
 -- Laws of sums over a set.
-use Rattle.std.proofs.Common.{◌≡◌, ℕ, zero, suc, ◌+◌, ◌*◌, ◌<◌, ◌≤◌, Bool, true, false, cond, ◌&&◌, ◌||◌, List, [], ◌∷◌, map, sum_by, sym, refl, ap, ◌∙◌, ⊎_elim, suc-mul, arith}
+use Rattle.std.proofs.Common.{◌≡◌, ℕ, zero, suc, ◌+◌, ◌*◌, ◌<◌, ◌≤◌, Bool, true, false, cond, ◌||◌, List, [], ◌∷◌, map, sum_by, sym, refl, ap, ◌∙◌, ⊎_elim, suc-mul, arith}
+use Rattle.std.proofs.Math.Bool.{and-true}
 use Rattle.std.proofs.lemmas.List.Sums.{sum_by-cons}
 use Rattle.std.proofs.lemmas.Bool.{cases_lt, eq-eqb, ne_eqb, and_parts, ltb-true}
 use Rattle.derivation.specs.declared.types.TypeEntry.{TypeEntry}
@@ -34,10 +35,6 @@ pub weight_none : (f : ℕ → ℕ) (n : ℕ) → weight 0 f n ≡ 0
 weight_none f zero = refl
 weight_none f (suc n) = rw (weight_none f n, has_none n) refl
 
-and_true : (b : Bool) → (b && true) ≡ b
-and_true true = refl
-and_true false = refl
-
 -- one more member x adds f x
 pub weight-more : (a b x n : ℕ) (f : ℕ → ℕ) → has a x ≡ false → has b x ≡ true → ((z : ℕ) → (z ≡ x → ⊥) → has a z ≡ has b z) → x < n
     → weight a f n + f x ≡ weight b f n
@@ -69,7 +66,7 @@ weight-only x n f l =
 pub weight-without : (m x n : ℕ) (f : ℕ → ℕ) → has m x ≡ true → x < n → weight (without m x) f n + f x ≡ weight m f n
 weight-without m x n f h l =
     weight-more (without m x) m x n f (rw (has-without m x x, h, eq-eqb x x refl) refl) h
-    (λ z ne. rw (has-without m x z, ne_eqb z x ne) (and_true (has m z))) l
+    (λ z ne. rw (has-without m x z, ne_eqb z x ne) (and-true (has m z))) l
 
 -- two different members less
 pub weight-without-both : (m x y n : ℕ) (f : ℕ → ℕ) → has m x ≡ true → has m y ≡ true → (x ≡ y → ⊥) → x < n → y < n

@@ -1,6 +1,6 @@
 -- Places, wires and moves of a derivation. A place is a row, a part of it (its type, or a variable of its environment) and an atom of that part.
 use Rattle.std.specs.Prelude.{ℕ, zero, suc, ◌+◌, ◌-◌, Bool, true, false, cond, not, List, [], ◌∷◌, ◌++◌, map, length}
-use Rattle.std.specs.List.{flat_map}
+use Rattle.std.specs.List.{filter, flat_map}
 use Rattle.derivation.specs.declared.types.TypeEntry.{TypeEntry}
 use Rattle.derivation.specs.declared.rows.Rule.{Rule}
 use Rattle.derivation.specs.declared.rows.Rule.TheVariants.{Variable, Zero, One, Gate, Lambda, PairLambda, Apply, Pair}
@@ -20,8 +20,7 @@ numbers k (suc n) = k ∷ numbers (suc k) n
 
 -- the elements that pass a test
 abbrev pub keep : {A : Type 0} → (A → Bool) → List A → List A
-keep t [] = []
-keep t (x ∷ xs) = cond (t x) (x ∷ keep t xs) (keep t xs)
+keep t xs = filter t xs
 
 -- the places in one part of row r, a part of type t
 abbrev pub places_in : ℕ → Part → Tree → List Place

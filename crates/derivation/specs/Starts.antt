@@ -1,5 +1,6 @@
 -- How the wires of a derivation start.
-use Rattle.std.specs.Prelude.{ℕ, List, [], ◌∷◌, ◌++◌, length, replicate, codes}
+use Rattle.std.specs.Prelude.{ℕ, List, ◌++◌, length, replicate, Option, Some, None, codes}
+use Rattle.std.specs.List.{filter_map}
 use Rattle.derivation.specs.declared.types.TypeEntry.{TypeEntry}
 use Rattle.derivation.specs.declared.rows.Rule.{Rule}
 use Rattle.derivation.specs.declared.rows.Rule.TheVariants.{Variable, Zero as ZeroRule, One as OneRule, Gate, Lambda, PairLambda, Apply, Pair}
@@ -9,19 +10,18 @@ use Rattle.derivation.specs.declared.rows.Start.TheVariants.{Given, Zero, One}
 use Rattle.derivation.specs.Places.{given}
 
 -- how the wire of a zero or one row starts; other rows start none
-abbrev pub starts_by : Rule → List Start
-starts_by Variable = []
-starts_by ZeroRule = Zero ∷ []
-starts_by OneRule = One ∷ []
-starts_by (Gate g) = []
-starts_by (Lambda p x) = []
-starts_by (PairLambda p x y) = []
-starts_by (Apply f a) = []
-starts_by (Pair l r) = []
+abbrev pub start_of : Rule → Option Start
+start_of Variable = None
+start_of ZeroRule = Some Zero
+start_of OneRule = Some One
+start_of (Gate g) = None
+start_of (Lambda p x) = None
+start_of (PairLambda p x y) = None
+start_of (Apply f a) = None
+start_of (Pair l r) = None
 
 abbrev pub bit_starts : List Row → List Start
-bit_starts [] = []
-bit_starts (row ∷ rows) = starts_by row.rule ++ bit_starts rows
+bit_starts rows = filter_map (λ row. start_of row.rule) rows
 
 -- how each wire starts: first the given wires, then the bits by rising row
 abbrev pub starts : List TypeEntry → List Row → List Start

@@ -13,7 +13,7 @@ ghost use Rattle.basics.specs.declared.refusal.Refusal.TheVariants.{OutOfMemory}
 
 use crate::bytes::{Parsed, parse};
 use crate::check::{Checked, check_rows, unused_row};
-use crate::count::{gate_count, mate_count, place_count, wire_count};
+use crate::count::Measured;
 use crate::rows::{Row, Rule, Start};
 use crate::starts::wire_starts;
 use crate::types::{Size, TypeEntry, type_sizes};
@@ -59,17 +59,18 @@ fn counted(
     if let Some(e) = unused_row(taken, last as u8) {
         return Err(e);
     }
-    let wires = wire_count(types, sizes, rows, envs[last]);
+    let measured = Measured { types, sizes, rows };
+    let wires = measured.wires(envs[last]);
     if wires > 32 {
         return Err(Refusal::TooManyWires(RowId(last as u8)));
     }
-    let places = place_count(types, sizes, rows);
+    let places = measured.places();
     Ok(Counts {
         wires: wires as u8,
-        gates: gate_count(rows),
+        gates: measured.gates(),
         moves: places
             .saturating_sub(wires)
-            .saturating_sub(mate_count(rows)),
+            .saturating_sub(measured.mates()),
     })
 }
 

@@ -1,37 +1,19 @@
 // How the wires of a derivation start.
-ghost use Rattle.std.specs.Prelude.{◌≡◌, ◌-◌, ◌≤◌, ◌++◌, length, replicate, MatchResult};
-ghost use Rattle.std.specs.Option.{option_to_list};
-ghost use Rattle.derivation.specs.Starts.{bit_starts, starts_by};
+ghost use Rattle.std.specs.Prelude.{◌≡◌, ◌-◌, ◌≤◌, ◌++◌, length, replicate, IfOk, MatchResult};
+ghost use Rattle.derivation.specs.Starts.{bit_starts};
 ghost use Rattle.basics.specs.declared.refusal.Layer.TheVariants.{Bytes};
 ghost use Rattle.basics.specs.declared.refusal.Refusal.TheVariants.{OutOfMemory};
 ghost use Rattle.derivation.specs.declared.rows.Start.TheVariants.{Given};
 
-use crate::rows::{Row, Rule, Start};
+use crate::rows::{Row, Start};
 use basics::refusal::Refusal;
-use std::alloc::Global;
-
-// How the wire of a zero or one row starts; other rows start none.
-fn start_of(rule: Rule) -> Option<Start>
-    ensures { option_to_list result ≡ starts_by rule }
-{
-    match rule {
-        Rule::Zero => Some(Start::Zero),
-        Rule::One => Some(Start::One),
-        _ => None,
-    }
-}
+use std::alloc::{AllocError, Global};
 
 // How the wires of the zero and one rows start, by rising row.
-fn bit_starts(heap: Global, rows: &[Row]) -> Result<Vec<Start>, Refusal>
-    ensures { MatchResult result (λ v. v.items ≡ bit_starts rows.now) (λ e. e ≡ OutOfMemory Bytes) }
+fn bit_starts(heap: Global, rows: &[Row]) -> Result<Vec<Start>, AllocError>
+    ensures { IfOk result (λ v. v.items ≡ bit_starts rows.now) }
 {
-    let mut starts = Vec::new(heap);
-    for row in rows {
-        if let Some(start) = start_of(row.rule) {
-            starts.push(start)?;
-        }
-    }
-    Ok(starts)
+    rows.iter().filter_map(|row| row.rule.start()).collect(heap)
 }
 
 // How each of the wires starts: those that no zero or one row starts are given, and come first.

@@ -2,54 +2,29 @@
 
 ghost use Rattle.std.specs.Prelude.{◌≡◌, ◌+◌, ◌<◌, ◌≤◌, map, length, if◌then◌else◌, Some, None, MatchResult, nat_lt};
 ghost use Rattle.derivation.specs.Faults.{Checked};
-ghost use Rattle.derivation.specs.Trees.{same_entry, same_kind, trees, type_fault, types_fault, unfolded};
+ghost use Rattle.derivation.specs.Trees.{trees, type_fault, types_fault, unfolded};
 ghost use Rattle.derivation.specs.Weights.{joined_size, size_of};
-ghost use Rattle.std.specs.Cmp.Rules.{comparing};
-ghost use Rattle.std.proofs.Common.{rules};
 
 use basics::numbers::TypeId;
 use basics::refusal::Refusal;
 use std::alloc::Global;
 
-#[derive(Clone, Copy)]
+#[derive(Clone, Copy, Debug, PartialEq, Eq)]
 pub enum TypeKind {
     Arrow,
     Pair,
 }
 
 // A further type: an arrow from left to right, or a pair of both.
-#[derive(Clone, Copy)]
+#[derive(Clone, Copy, Debug, PartialEq, Eq)]
 pub struct TypeEntry {
     pub kind: TypeKind,
     pub left: TypeId,
     pub right: TypeId,
 }
 
-impl PartialEq for TypeKind {
-    ghost eq = { λ x y. same_kind x y };
-
-    ghost laws = { Prim.search (comparing, rules) };
-
-    fn eq(&self, other: &TypeKind) -> bool {
-        match (*self, *other) {
-            (TypeKind::Arrow, TypeKind::Arrow) | (TypeKind::Pair, TypeKind::Pair) => true,
-            (TypeKind::Arrow, TypeKind::Pair) | (TypeKind::Pair, TypeKind::Arrow) => false,
-        }
-    }
-}
-
-impl PartialEq for TypeEntry {
-    ghost eq = { λ x y. same_entry x y };
-
-    ghost laws = { Prim.search (comparing, rules) };
-
-    fn eq(&self, other: &TypeEntry) -> bool {
-        self.kind == other.kind && self.left.0 == other.left.0 && self.right.0 == other.right.0
-    }
-}
-
 // How many atoms a type has, and how many of them are positive.
-#[derive(Clone, Copy)]
+#[derive(Clone, Copy, Debug, PartialEq, Eq)]
 pub struct Size {
     pub atoms: u8,
     pub positive: u8,
@@ -90,10 +65,7 @@ fn entry_size(before: &[TypeEntry], sizes: &[Size], entry: TypeEntry) -> Result<
     }
     let left = sizes[entry.left.0 as usize];
     let right = sizes[entry.right.0 as usize];
-    match joined(entry.kind, left, right) {
-        Some(size) => Ok(size),
-        None => Err(Refusal::TooManyAtoms(TypeId(number))),
-    }
+    joined(entry.kind, left, right).ok_or(Refusal::TooManyAtoms(TypeId(number)))
 }
 
 // The sizes of a table's types, from entry 0 on, or the table's first fault.
@@ -106,8 +78,9 @@ pub(crate) fn type_sizes(heap: Global, types: &[TypeEntry]) -> Result<Vec<Size>,
         atoms: 1,
         positive: 1,
     })?;
+    // A loop, and no chain: each size is made from those before it, and the first fault ends it.
     for (i, entry) in types.iter().enumerate() {
-        let size = entry_size(&types[0..i], sizes.as_slice(), *entry)?;
+        let size = entry_size(&types[..i], sizes.as_slice(), *entry)?;
         sizes.push(size)?;
     }
     Ok(sizes)

@@ -8,20 +8,20 @@ use Rattle.derivation.proofs.holder.counted.Goals as goal
 pub bounds-envs-last : goal.bounds-envs-last
 bounds-envs-last c = omega (arith, ap length c.requires.surrounded, length-environments c.args.rows.now)
 
-pub wire_count-wires-requires : goal.wire_count-wires-requires
-wire_count-wires-requires c = record {
+pub invariant_of-measured : goal.invariant_of-measured
+invariant_of-measured c = record {
   sized = c.requires.sized;
-  known = sound-known c.requires;
   small = sound-small c.requires;
+  known = sound-known c.requires;
   some = c.requires.some_rows;
   few = c.requires.few_rows;
-  env_last = sound-env c.requires;
 }
 
-pub place_count-places-requires : goal.place_count-places-requires
-place_count-places-requires c = record {
-  sized = c.requires.sized;
-  accepted = sound_accepted c.requires (whole_none c.args.types.now c.args.rows.now
-      (ap (λ m. lowest_missing m 0 (length c.args.rows.now - 1)) (sym c.requires.used) ∙ sym c.in_default.ensures)
-      (subst (λ n. n ≤ 32) c.wire_count-wires.ensures c.if-wires-gt32.false));
-}
+pub wires-wires-requires : goal.wires-wires-requires
+wires-wires-requires c = sound-env c.requires
+
+pub places-places-requires : goal.places-places-requires
+places-places-requires c =
+    sound_accepted c.requires (whole_none c.args.types.now c.args.rows.now
+    (ap (λ m. lowest_missing m 0 (length c.args.rows.now - 1)) (sym c.requires.used) ∙ sym c.in_default.ensures)
+    (subst (λ n. n ≤ 32) c.wires-wires.ensures c.if-wires-gt32.false))

@@ -6,6 +6,8 @@ use Rattle.derivation.proofs.types.type_sizes.Given as goal
 
 -- the sizes of the entries so far, of which none has a fault
 abbrev pub invariant-loop-i : goal.invariant-loop-i
-invariant-loop-i l =
-    (l.i ≤ length l.types) × (vec_items l.sizes ≡ map size_of (trees (take l.i l.types)))
-    × (types_fault l.types ≡ first_fault type_fault (λ e. e) (take l.i l.types) (drop l.i l.types))
+invariant-loop-i l = record {
+  within : l.i ≤ length l.types;
+  sized : vec_items l.sizes ≡ map size_of (trees (take l.i l.types));
+  faultless : types_fault l.types ≡ first_fault type_fault (λ e. e) (take l.i l.types) (drop l.i l.types);
+}
