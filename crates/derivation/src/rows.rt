@@ -6,7 +6,7 @@ use basics::gate::Gate;
 use basics::numbers::{Atom, RowId, TypeId};
 
 // How a wire's token starts: at a negative place of the last row, or at a zero or one row.
-#[derive(Clone, Copy)]
+#[derive(Clone, Copy, Debug, PartialEq, Eq)]
 pub enum Start {
     Given,
     Zero,
@@ -53,14 +53,14 @@ pub struct Record {
 }
 
 // A part of a row: its type, or a variable of its environment.
-#[derive(Clone, Copy)]
+#[derive(Clone, Copy, Debug, PartialEq, Eq)]
 pub enum Part {
     Ty,
     Variable(RowId),
 }
 
 // A place, where a token can stand: a row, a part of it and an atom of that part.
-#[derive(Clone, Copy)]
+#[derive(Clone, Copy, Debug, PartialEq, Eq)]
 pub struct Place {
     pub row: RowId,
     pub part: Part,
