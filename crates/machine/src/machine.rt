@@ -44,6 +44,7 @@ struct Spot {
 }
 
 // A derivation that passed all checks, with what moves ask of each row, and the places where tokens start and end.
+// Contracts cite the types and the rows, and a ghost field holds no list: so they stand here beside the facts.
 #[derive(Drop)]
 pub struct Machine {
     types: Vec<TypeEntry>,
@@ -58,6 +59,8 @@ pub struct Machine {
 }
 
 impl Machine {
+    ghost use Rattle.machine.specs.Machines.{within};
+
     // The machine of the derivation in the holder.
     pub fn new(heap: Global, holder: &Holder) -> Result<Machine, Refusal>
         ensures copied { MatchResult result (λ m. (m.types.items ≡ holder.now.types.items) × (m.rows.items ≡ holder.now.rows.items)) (λ e. e ≡ OutOfMemory Bytes) }
@@ -84,7 +87,7 @@ impl Machine {
 
     // What moves ask of row r, if there is such a row.
     fn fact(&self, r: RowId) -> Option<RowFacts>
-        ensures { result ≡ facts_found self.now.types.items self.now.rows.items r.0 }
+        ensures { result ≡ within self.now facts_found r.0 }
     {
         self.facts.get(r.0 as usize).copied()
     }
@@ -96,9 +99,10 @@ impl Machine {
         self.rows.get(r.0 as usize).map(|row| row.rule)
     }
 
-    // The type of row r. The definitions give a row that there is not a qubit's.
+    // The type of row r. The definitions give a row that there is not a qubit's: with an Option here each caller
+    // would need a proof that the rows of its rule are there.
     fn ty(&self, r: RowId) -> TypeFacts
-        ensures value { result ≡ facts_of (tree_at self.now.types.items self.now.rows.items r.0) }
+        ensures value { result ≡ facts_of (within self.now tree_at r.0) }
         ensures few { result.width ≤ 16 }
     {
         self.fact(r).map_or(TypeFacts::QUBIT, |facts| facts.ty)
@@ -114,7 +118,7 @@ impl Machine {
     // The polarity of p, if its part has so many atoms; a variable that the environment lacks has none.
     // A place in a variable has the reverse of its atom's polarity.
     fn polarity(&self, p: Place) -> Option<Polarity>
-        ensures { result ≡ place_polarity self.now.types.items self.now.rows.items p }
+        ensures { result ≡ within self.now place_polarity p }
     {
         match p.part {
             Part::Ty => self.ty(p.row).polarity(p.atom.0),
@@ -127,12 +131,12 @@ impl Machine {
         }
     }
 
-    // Place p, if the derivation has it: a row, a part of it and an atom of that part.
+    // Place p, if the derivation has it.
     fn spot(&self, p: Place) -> Option<Spot>
-        ensures there { is_some result ≡ is_place self.now.types.items self.now.rows.items p }
+        ensures there { is_some result ≡ within self.now is_place p }
         ensures same { IfSome result (λ s. s.place ≡ p) }
         ensures ruled { IfSome result (λ s. s.rule ≡ rule_at self.now.rows.items p.row.0) }
-        ensures signed { IfSome result (λ s. s.polarity ≡ polarity_of (negative self.now.types.items self.now.rows.items p)) }
+        ensures signed { IfSome result (λ s. s.polarity ≡ polarity_of (within self.now negative p)) }
     {
         let rule = self.rule(p.row)?;
         let polarity = self.polarity(p)?;
@@ -143,7 +147,7 @@ impl Machine {
         })
     }
 
-    // Whether p is a place of the derivation.
+    // Whether p is a place of the derivation: a row, a part of it and an atom of that part.
     pub fn is_place(&self, p: Place) -> bool
         ensures { result ≡ is_place self.now.types.items self.now.rows.items p }
     {
@@ -152,14 +156,14 @@ impl Machine {
 
     // The premise of two that has variable z.
     fn owner(&self, p: RowId, q: RowId, z: RowId) -> RowId
-        ensures { result.0 ≡ owner_of self.now.types.items self.now.rows.items p.0 q.0 z.0 }
+        ensures { result.0 ≡ within self.now owner_of p.0 q.0 z.0 }
     {
         if self.holds(p, z) { p } else { q }
     }
 
     // From atom i of a lambda's type: its first atoms are those of variable x.
     fn lambda_up(&self, premise: RowId, x: RowId, i: u8) -> Place
-        ensures { Some result ≡ across_own self.now.types.items self.now.rows.items 0 (Lambda premise x) Ty i }
+        ensures { Some result ≡ within self.now across_own 0 (Lambda premise x) Ty i }
     {
         let width = self.ty(x).width;
         if i < width {
@@ -171,7 +175,7 @@ impl Machine {
 
     // The same of a pair lambda: first the atoms of x, then those of y.
     fn pair_lambda_up(&self, premise: RowId, x: RowId, y: RowId, i: u8) -> Place
-        ensures { Some result ≡ across_own self.now.types.items self.now.rows.items 0 (PairLambda premise x y) Ty i }
+        ensures { Some result ≡ within self.now across_own 0 (PairLambda premise x y) Ty i }
     {
         let first = self.ty(x).width;
         let both = first + self.ty(y).width;
@@ -186,7 +190,7 @@ impl Machine {
 
     // From atom i of a pair's type: first the atoms of its left part.
     fn pair_up(&self, left: RowId, right: RowId, i: u8) -> Place
-        ensures { Some result ≡ across_own self.now.types.items self.now.rows.items 0 (Pair left right) Ty i }
+        ensures { Some result ≡ within self.now across_own 0 (Pair left right) Ty i }
     {
         let width = self.ty(left).width;
         if i < width {
@@ -198,7 +202,7 @@ impl Machine {
 
     // From an atom of its row's type through the row's own rule.
     fn type_up(&self, s: Spot) -> Option<Place>
-        ensures { result ≡ across_own self.now.types.items self.now.rows.items s.place.row.0 s.rule Ty s.place.atom.0 }
+        ensures { result ≡ within self.now across_own s.place.row.0 s.rule Ty s.place.atom.0 }
     {
         let (r, i) = (s.place.row, s.place.atom.0);
         match s.rule {
@@ -214,7 +218,7 @@ impl Machine {
 
     // From an atom of variable z through its row's own rule.
     fn variable_up(&self, s: Spot, z: RowId) -> Option<Place>
-        ensures { result ≡ across_own self.now.types.items self.now.rows.items s.place.row.0 s.rule (Var z) s.place.atom.0 }
+        ensures { result ≡ within self.now across_own s.place.row.0 s.rule (Var z) s.place.atom.0 }
     {
         let (r, i) = (s.place.row, s.place.atom.0);
         match s.rule {
@@ -233,7 +237,7 @@ impl Machine {
 
     // Through the rule of its own row.
     fn upward(&self, s: Spot) -> Option<Place>
-        ensures { result ≡ across_own self.now.types.items self.now.rows.items s.place.row.0 s.rule s.place.part s.place.atom.0 }
+        ensures { result ≡ within self.now across_own s.place.row.0 s.rule s.place.part s.place.atom.0 }
     {
         match s.place.part {
             Part::Ty => self.type_up(s),
@@ -243,7 +247,7 @@ impl Machine {
 
     // From an atom of variable z of a pair lambda's body: x and y are bound.
     fn pair_lambda_down(&self, s: Spot, r: RowId, x: RowId, y: RowId, z: RowId) -> Place
-        ensures { result ≡ (if nat_eq z.0 x.0 then type_place r.0 s.place.atom.0 else (if nat_eq z.0 y.0 then type_place r.0 (width_of self.now.types.items self.now.rows.items x.0 + s.place.atom.0) else held_place r.0 z.0 s.place.atom.0)) }
+        ensures { result ≡ (if nat_eq z.0 x.0 then type_place r.0 s.place.atom.0 else (if nat_eq z.0 y.0 then type_place r.0 (within self.now width_of x.0 + s.place.atom.0) else held_place r.0 z.0 s.place.atom.0)) }
     {
         let i = s.place.atom.0;
         if z == x {
@@ -257,7 +261,7 @@ impl Machine {
 
     // From an atom of the type of an application's premise: a function's first atoms are its argument's.
     fn apply_down(&self, s: Spot, r: RowId, function: RowId, argument: RowId) -> Place
-        ensures { Some result ≡ across_premise self.now.types.items self.now.rows.items r.0 (Apply function argument) s.place.row.0 Ty s.place.atom.0 }
+        ensures { Some result ≡ within self.now across_premise r.0 (Apply function argument) s.place.row.0 Ty s.place.atom.0 }
     {
         let i = s.place.atom.0;
         if s.place.row != function {
@@ -273,7 +277,7 @@ impl Machine {
 
     // From an atom of the type of a pair's part: the atoms of the left part come first.
     fn pair_down(&self, s: Spot, r: RowId, left: RowId) -> Place
-        ensures { result ≡ (if nat_eq s.place.row.0 left.0 then type_place r.0 s.place.atom.0 else type_place r.0 (width_of self.now.types.items self.now.rows.items left.0 + s.place.atom.0)) }
+        ensures { result ≡ (if nat_eq s.place.row.0 left.0 then type_place r.0 s.place.atom.0 else type_place r.0 (within self.now width_of left.0 + s.place.atom.0)) }
     {
         let i = s.place.atom.0;
         if s.place.row == left {
@@ -285,7 +289,7 @@ impl Machine {
 
     // From an atom of a premise's type through the rule of the row r below it.
     fn type_down(&self, s: Spot, r: RowId, rule: Rule) -> Option<Place>
-        ensures { result ≡ across_premise self.now.types.items self.now.rows.items r.0 rule s.place.row.0 Ty s.place.atom.0 }
+        ensures { result ≡ within self.now across_premise r.0 rule s.place.row.0 Ty s.place.atom.0 }
     {
         let i = s.place.atom.0;
         match rule {
@@ -299,7 +303,7 @@ impl Machine {
 
     // From an atom of variable z of a premise through the rule of the row r below it.
     fn variable_down(&self, s: Spot, r: RowId, rule: Rule, z: RowId) -> Option<Place>
-        ensures { result ≡ across_premise self.now.types.items self.now.rows.items r.0 rule s.place.row.0 (Var z) s.place.atom.0 }
+        ensures { result ≡ within self.now across_premise r.0 rule s.place.row.0 (Var z) s.place.atom.0 }
     {
         let i = s.place.atom.0;
         match rule {
@@ -313,7 +317,7 @@ impl Machine {
     // Through the rule of the row below its own.
     fn downward(&self, s: Spot) -> Option<Place>
         requires { s.place.row.0 < length self.now.rows.items }
-        ensures { result ≡ downward_of self.now.types.items self.now.rows.items s.place }
+        ensures { result ≡ within self.now downward_of s.place }
     {
         let r = self.fact(s.place.row)?.below?;
         let rule = self.rule(r)?;
