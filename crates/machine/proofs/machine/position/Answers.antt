@@ -1,5 +1,5 @@
 -- The search answers the number of the first place that passes the test.
-use Rattle.std.proofs.Common.{◌≡◌, ◌<◌, ltb, cond, length, Some, None, ap, ◌∙◌, unwrap_or, rules}
+use Rattle.std.proofs.Common.{ltb, cond, length, Some, None, ap, rules}
 use Rattle.std.proofs.lemmas.Iterator.{YieldsList-from_slice}
 use Rattle.std.proofs.lemmas.Iterator.Search.{position_from_yields_List}
 use Rattle.derivation.specs.contracts.rows.PlacePartialEq.TheImpl.{ghosts as equality}

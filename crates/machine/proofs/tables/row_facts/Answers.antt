@@ -1,5 +1,5 @@
 -- Each row adds what the tables have of it.
-use Rattle.std.proofs.Common.{◌≡◌, ◌<◌, ◌≤◌, ◌+◌, ℕ, List, [], ◌∷◌, ◌++◌, length, get_or, map, Bor, Option, vec_items, sym, ap, ◌∙◌, ap₂, arith}
+use Rattle.std.proofs.Common.{◌≡◌, ◌<◌, ◌≤◌, ℕ, List, [], ◌∷◌, ◌++◌, length, get_or, map, Bor, Option, vec_items, sym, ap, ◌∙◌, ap₂, arith}
 use Rattle.std.proofs.lemmas.List.{length_push}
 use Rattle.std.specs.List.{zip}
 use Rattle.std.proofs.iter.Yields.{fronts}
@@ -18,6 +18,13 @@ use Rattle.machine.proofs.tables.row_facts.Goals.{After-into_iter-row-iterator}
 pub below_rows-below-requires : goal.below_rows-below-requires
 below_rows-below-requires c = record { few = c.requires.accepted.few; lower = rows-lower c.args.types.now c.args.rows.now c.requires.accepted }
 
+-- as many environments as rows, and as many rows below as rows or more
+as_many : (c : After-into_iter-row-iterator) → length c.args.envs.now ≡ length c.args.rows.now
+as_many c = ap length c.requires.surrounded ∙ length-environments c.args.rows.now
+
+enough : (c : After-into_iter-row-iterator) → length c.args.rows.now ≤ length c.below_rows-below.result
+enough c = omega (arith, c.requires.accepted.few, c.below_rows-below.ensures.size)
+
 -- what the loop goes over
 chain : (c : After-into_iter-row-iterator)
     → YieldsList (zips fronts (zips fronts fronts)) (λ (p : Bor Row × (Bor ℕ × Bor (Option RowId))). (p.0.now, (p.1.0.now, p.1.1.now))) c.into_iter-row-iterator.result
@@ -29,12 +36,11 @@ index-requires c =
     let rows = c.args.rows.now in
     let envs = c.args.envs.now in
     let below = c.below_rows-below.result in
-    let as_many = ap length c.requires.surrounded ∙ length-environments rows in
-    let enough : length rows ≤ length below = omega (arith, c.requires.accepted.few, c.below_rows-below.ensures.size) in
+    let before = (goal.at.index-requires c).After-into_iter-row-iterator in
     let i = length c.loop-row.yielded in
-    let turn = YieldsList-turn (chain (goal.at.index-requires c).After-into_iter-row-iterator) c.loop-row.yielded _ c.loop-row.yielded_by c.next.result c.next.new.self (c.in-Some.row, (c.in-Some.env, c.in-Some.below)) c.in-Some.is c.next.ensures.steps in
-    let here = row_turn rows envs below as_many enough i (c.in-Some.row.now, (c.in-Some.env.now, c.in-Some.below.now)) turn.0 turn.1 in
-    let h : i < length rows = omega (arith, turn.0, length-joined_rows rows envs below as_many enough) in
+    let turn = YieldsList-turn (chain before) c.loop-row.yielded _ c.loop-row.yielded_by c.next.result c.next.new.self (c.in-Some.row, (c.in-Some.env, c.in-Some.below)) c.in-Some.is c.next.ensures.steps in
+    let here = row_turn rows envs below (as_many before) (enough before) i (c.in-Some.row.now, (c.in-Some.env.now, c.in-Some.below.now)) turn.0 turn.1 in
+    let h : i < length rows = omega (arith, turn.0, length-joined_rows rows envs below (as_many before) (enough before)) in
     omega (arith, c.in_ok-table.table.ok.0, length-facts c.args.types.now (vec_items c.in_ok-table.table) c.in_ok-table.ensures, c.requires.accepted.known i h, ap (λ (p : Row × (ℕ × Option RowId)). p.0.ty.0) here)
 
 pub loop-row-preserved : goal.loop-row-preserved
@@ -43,12 +49,11 @@ loop-row-preserved c =
     let rows = c.args.rows.now in
     let envs = c.args.envs.now in
     let below = c.below_rows-below.result in
-    let as_many = ap length c.requires.surrounded ∙ length-environments rows in
-    let enough : length rows ≤ length below = omega (arith, c.requires.accepted.few, c.below_rows-below.ensures.size) in
+    let before = (goal.at.loop-row-preserved c).After-into_iter-row-iterator in
     let i = length c.loop-row.yielded in
-    let turn = YieldsList-turn (chain (goal.at.loop-row-preserved c).After-into_iter-row-iterator) c.loop-row.yielded _ c.loop-row.yielded_by c.next.result c.next.new.self (c.in-Some.row, (c.in-Some.env, c.in-Some.below)) c.in-Some.is c.next.ensures.steps in
-    let here = row_turn rows envs below as_many enough i (c.in-Some.row.now, (c.in-Some.env.now, c.in-Some.below.now)) turn.0 turn.1 in
-    let h : i < length rows = omega (arith, turn.0, length-joined_rows rows envs below as_many enough) in
+    let turn = YieldsList-turn (chain before) c.loop-row.yielded _ c.loop-row.yielded_by c.next.result c.next.new.self (c.in-Some.row, (c.in-Some.env, c.in-Some.below)) c.in-Some.is c.next.ensures.steps in
+    let here = row_turn rows envs below (as_many before) (enough before) i (c.in-Some.row.now, (c.in-Some.env.now, c.in-Some.below.now)) turn.0 turn.1 in
+    let h : i < length rows = omega (arith, turn.0, length-joined_rows rows envs below (as_many before) (enough before)) in
     let ty = c.index.result.now in
     let table = vec_items c.in_ok-table.table in
     c.in_ok-push.ensures.items
@@ -65,7 +70,6 @@ returns c =
     let rows = c.args.rows.now in
     let envs = c.args.envs.now in
     let below = c.below_rows-below.result in
-    let as_many = ap length c.requires.surrounded ∙ length-environments rows in
-    let enough : length rows ≤ length below = omega (arith, c.requires.accepted.few, c.below_rows-below.ensures.size) in
-    let end = YieldsList-end (chain (goal.at.returns c).After-into_iter-row-iterator) c.loop-row.yielded _ c.loop-row.yielded_by c.next.result c.next.new.self c.in-None.is c.next.ensures.steps in
-    c.loop-row.invariant ∙ ap (λ n. map (facts_at c.args.types.now rows) (numbers 0 n)) (end.1 ∙ length-joined_rows rows envs below as_many enough)
+    let before = (goal.at.returns c).After-into_iter-row-iterator in
+    let end = YieldsList-end (chain before) c.loop-row.yielded _ c.loop-row.yielded_by c.next.result c.next.new.self c.in-None.is c.next.ensures.steps in
+    c.loop-row.invariant ∙ ap (λ n. map (facts_at c.args.types.now rows) (numbers 0 n)) (end.1 ∙ length-joined_rows rows envs below (as_many before) (enough before))

@@ -1,4 +1,4 @@
-use Rattle.std.proofs.Common.{◌≡◌, ◌≤◌, unwrap_or, vec_items, ap, ◌∙◌, subst, rules}
+use Rattle.std.proofs.Common.{◌≡◌, ◌≤◌, unwrap_or, vec_items, ap, ◌∙◌, rules}
 use mathlib.Core.Path.{subst⁻¹}
 use Rattle.std.specs.Option.{option_map}
 use Rattle.machine.specs.declared.tables.RowFacts.{RowFacts}
