@@ -22,17 +22,6 @@ loop-r-init c =
       under = λ q h. below_none rows 128 q h ∙ ap (λ n. row_of (length rows) (below_from n (drop n rows) q)) (sym (ap length all));
     }
 
-pub mark-requires : goal.mark-requires
-mark-requires c =
-    let rows = c.args.rows.now in
-    let rest = iter_rest c.loop-r.r-iterator.iter.iter in
-    let others = iter_rest c.next.new.self.iter.iter in
-    let inv = c.loop-r.invariant in
-    let step = c.in-Some.ensures.steps in
-    let count = left_count rows rest others c.in-Some.row.now inv.left inv.few step.1.0 in
-    let more = left_more rows rest others c.in-Some.row.now inv.left inv.few step.1.0 in
-    ap₂ (λ (n : ℕ) (row : Row). all_below n (premises row.rule)) inv.size more.1 ∙ c.requires.lower (length others) (omega (arith, inv.few))
-
 pub loop-r-preserved : goal.loop-r-preserved
 loop-r-preserved c =
     let rows = c.args.rows.now in

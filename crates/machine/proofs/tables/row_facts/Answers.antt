@@ -15,8 +15,8 @@ use Rattle.machine.proofs.FactLaws.{length-facts, rows-lower, map-numbers, row_f
 use Rattle.machine.proofs.tables.row_facts.Goals as goal
 use Rattle.machine.proofs.tables.row_facts.Goals.{After-into_iter-row-iterator}
 
-pub below_rows-below-requires : goal.below_rows-below-requires
-below_rows-below-requires c = record { few = c.requires.accepted.few; lower = rows-lower c.args.types.now c.args.rows.now c.requires.accepted }
+pub below_rows-below-requires-clause-lower : goal.below_rows-below-requires-clause-lower
+below_rows-below-requires-clause-lower c = rows-lower c.args.types.now c.args.rows.now c.requires.accepted
 
 -- as many environments as rows, and as many rows below as rows or more
 as_many : (c : After-into_iter-row-iterator) → length c.args.envs.now ≡ length c.args.rows.now

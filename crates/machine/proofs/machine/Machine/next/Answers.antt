@@ -1,5 +1,5 @@
 use Rattle.std.proofs.Common.{vec_items, sym, ◌∙◌}
-use Rattle.machine.proofs.MoveTables.{next_down, next_up, place-row}
+use Rattle.machine.proofs.MoveTables.{next_down, next_up}
 use Rattle.machine.proofs.machine.Machine.next.Goals as goal
 
 pub returns-in-Negative : goal.returns-in-Negative
@@ -8,12 +8,6 @@ returns-in-Negative c =
     let s = c.in_ok-spot.spot in
     let h = c.in_ok-spot.ensures in
     next_up (vec_items m.types) (vec_items m.rows) c.args.p s.place h.same h.there s.rule c.upward.result h.ruled (sym c.in-Negative.is ∙ h.signed) c.upward.ensures
-
-pub downward-requires : goal.downward-requires
-downward-requires c =
-    let m = c.args.self.now in
-    let h = c.in_ok-spot.ensures in
-    place-row (vec_items m.types) (vec_items m.rows) c.args.p c.in_ok-spot.spot.place h.same h.there
 
 pub returns-in-Positive : goal.returns-in-Positive
 returns-in-Positive c =
