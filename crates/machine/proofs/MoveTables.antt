@@ -5,7 +5,7 @@ use Rattle.std.specs.Option.{option_map}
 use Rattle.std.proofs.lemmas.List.{get_or_past}
 use Rattle.std.proofs.lemmas.Option.{none-some}
 use Rattle.derivation.proofs.SetLaws.{has_none}
-use Rattle.std.proofs.lemmas.Bool.{and_parts, lt-ltb, le-ltb, ltb-true, cases_lt}
+use Rattle.std.proofs.lemmas.Bool.{lt-ltb, le-ltb, cases_lt}
 use Rattle.derivation.specs.declared.types.TypeEntry.{TypeEntry}
 use Rattle.derivation.specs.declared.rows.Row.{Row}
 use Rattle.basics.specs.declared.numbers.RowId.{RowId}
@@ -118,9 +118,6 @@ module _ (es : List TypeEntry) (rows : List Row) (p : Place) where
 
 -- a token's next place, by the polarity of its own
 module _ (es : List TypeEntry) (rows : List Row) (p q : Place) (same : q ≡ p) (there : true ≡ is_place es rows p) where
-  pub place-row : q.row.0 < length rows
-  place-row = subst⁻¹ (λ (o : Place). o.row.0 < length rows) same (ltb-true p.row.0 (length rows) (and_parts _ _ (sym there)).0)
-
   is_next : (b : Bool) (o : Option Place) → b ≡ negative es rows p → o ≡ cond b (upward es rows p) (downward es rows p) → o ≡ cond (is_place es rows p) (next es rows p) None
   unfolding next
   is_next b o n e = e ∙ ap (λ c. cond c (upward es rows p) (downward es rows p)) n ∙ ap (λ c. cond c (next es rows p) None) there

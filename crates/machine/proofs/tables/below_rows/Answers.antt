@@ -3,7 +3,7 @@ use Rattle.std.proofs.Common.{◌≡◌, ℕ, length, get_or, drop, Some, None, 
 use Rattle.std.specs.Slice.Iter.{iter_rest}
 use Rattle.std.proofs.lemmas.List.{take_all}
 use Rattle.derivation.specs.declared.rows.Row.{Row}
-use Rattle.derivation.specs.Rows.{all_below, no_row, premises}
+use Rattle.derivation.specs.Rows.{no_row, premises}
 use Rattle.derivation.specs.Judgements.{rule_at}
 use Rattle.machine.specs.Facts.{marked, row_of}
 use Rattle.theory.specs.Ports.{below_from}

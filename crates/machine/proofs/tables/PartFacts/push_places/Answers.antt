@@ -1,15 +1,11 @@
 use Rattle.std.proofs.Common.{Some, vec_items, sym, ap, ◌∙◌}
 use Rattle.std.specs.Option.{option_eq}
-use Rattle.std.proofs.lemmas.List.{append-nil}
 use Rattle.machine.specs.contracts.tables.PolarityPartialEq.TheImpl.{ghosts as polarity_equality}
 use Rattle.machine.specs.Facts.{is_positive}
 use Rattle.machine.proofs.PlaceTests.{atom_polarity-eq}
 use Rattle.machine.proofs.StartTables.{signed_in, signed_out}
 use Rattle.machine.proofs.tables.PartFacts.push_places.Goals as goal
 use Rattle.machine.proofs.tables.PartFacts.push_places.Goals.{then-eq+in_ok-push, else-eq}
-
-pub loop-i-init : goal.loop-i-init
-loop-i-init c = sym (append-nil (vec_items c.args.places.now))
 
 pub loop-i-preserved : goal.loop-i-preserved
 loop-i-preserved c =
