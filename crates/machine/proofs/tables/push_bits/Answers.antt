@@ -18,4 +18,3 @@ loop-r-preserved c =
           ∙ bits_in rows r c.loop-r-test.true ps w.if-is_bit.ensures ∙ c.loop-r.invariant
       | else-is_bit w ↦ ap (λ l. l ++ left) (ap vec_items w.places-is) ∙ bits_out rows r c.loop-r-test.true ps w.if-is_bit.ensures ∙ c.loop-r.invariant
     ]
-
