@@ -1,6 +1,5 @@
 -- What the code learns while it lists the places of the last row.
 use Rattle.std.proofs.Common.{◌≡◌, ℕ, zero, suc, ◌+◌, ◌-◌, ◌<◌, ◌≤◌, Bool, true, false, cond, not, List, [], ◌∷◌, ◌++◌, map, length, get_or, drop, sym, refl, ap, ◌∙◌, subst, ap₂, add-zero, add-suc, suc-add, zero-add, add-one, arith}
-use mathlib.Core.Bool.{beq}
 use Rattle.std.specs.List.{flat_map}
 use Rattle.std.proofs.lemmas.List.{append-nil, append_assoc, flat_map_more, drop_more, drop_all, length-map, length-append, get_or-map}
 use Rattle.derivation.specs.declared.types.TypeEntry.{TypeEntry}
@@ -19,7 +18,6 @@ use Rattle.derivation.proofs.PlaceLaws.{length-numbers}
 use Rattle.machine.specs.declared.tables.RowFacts.{RowFacts}
 use Rattle.machine.specs.Facts.{agrees, places_to, signed, signs_of, no_facts, facts_at, signed_held, signed_at, starts_by}
 use Rattle.theory.specs.Ports.{at, bit_places, width, starts, ends}
-use Rattle.theory.specs.Tokens.{same_place, wire_at}
 use Rattle.machine.proofs.SignLaws.{signs-has}
 use Rattle.machine.proofs.FactLaws.{numbers_more, map-numbers}
 
@@ -30,13 +28,6 @@ keep_append {A} t (x ∷ xs) ys = go (t x) (keep_append t xs ys)
     go : (b : Bool) → keep t (xs ++ ys) ≡ keep t xs ++ keep t ys → cond b (x ∷ keep t (xs ++ ys)) (keep t (xs ++ ys)) ≡ cond b (x ∷ keep t xs) (keep t xs) ++ keep t ys
     go true ih = ap (λ l. x ∷ l) ih
     go false ih = ih
-
--- a test that comes out as wanted, as the code asks it
-pub agrees_beq : (b w : Bool) → beq b w ≡ agrees w b
-agrees_beq true true = refl
-agrees_beq true false = refl
-agrees_beq false true = refl
-agrees_beq false false = refl
 
 -- the places of one more atom
 module _ (w : Bool) (s r : ℕ) (part : Part) (i : ℕ) where
@@ -49,15 +40,15 @@ module _ (w : Bool) (s r : ℕ) (part : Part) (i : ℕ) where
       ∙ keep_append (λ (p : Place). agrees w (has s p.atom.0)) (places_to r part i) (place ∷ [])
 
   -- by the answer of the code's test
-  add : (b c : Bool) → b ≡ has s i → beq b w ≡ c → signed w s r part (i + 1) ≡ signed w s r part i ++ cond c (place ∷ []) []
-  add b c e t = more ∙ ap (λ d. signed w s r part i ++ cond d (place ∷ []) []) (ap (agrees w) (sym e) ∙ sym (agrees_beq b w) ∙ t)
+  add : (b : Bool) → b ≡ agrees w (has s i) → signed w s r part (i + 1) ≡ signed w s r part i ++ cond b (place ∷ []) []
+  add b e = more ∙ ap (λ d. signed w s r part i ++ cond d (place ∷ []) []) (sym e)
 
-  pub signed_in : (ps qs : List Place) (b : Bool) → qs ≡ ps ++ signed w s r part i → b ≡ has s i → beq b w ≡ true → qs ++ (place ∷ []) ≡ ps ++ signed w s r part (i + 1)
-  signed_in ps qs b e h t =
-      ap (λ l. l ++ (place ∷ [])) e ∙ append_assoc ps (signed w s r part i) (place ∷ []) ∙ ap (λ l. ps ++ l) (sym (add b true h t))
+  pub signed_in : (ps qs : List Place) → qs ≡ ps ++ signed w s r part i → true ≡ agrees w (has s i) → qs ++ (place ∷ []) ≡ ps ++ signed w s r part (i + 1)
+  signed_in ps qs e t =
+      ap (λ l. l ++ (place ∷ [])) e ∙ append_assoc ps (signed w s r part i) (place ∷ []) ∙ ap (λ l. ps ++ l) (sym (add true t))
 
-  pub signed_out : (ps qs : List Place) (b : Bool) → qs ≡ ps ++ signed w s r part i → b ≡ has s i → beq b w ≡ false → qs ≡ ps ++ signed w s r part (i + 1)
-  signed_out ps qs b e h t = e ∙ ap (λ l. ps ++ l) (sym (append-nil (signed w s r part i)) ∙ sym (add b false h t))
+  pub signed_out : (ps qs : List Place) → qs ≡ ps ++ signed w s r part i → false ≡ agrees w (has s i) → qs ≡ ps ++ signed w s r part (i + 1)
+  signed_out ps qs e t = e ∙ ap (λ l. ps ++ l) (sym (append-nil (signed w s r part i)) ∙ sym (add false t))
 
 -- the list of one more number
 pub joined_numbers : {A : Type 0} (f : ℕ → List A) (n : ℕ) → flat_map f (numbers 0 (n + 1)) ≡ flat_map f (numbers 0 n) ++ f n
@@ -66,12 +57,12 @@ joined_numbers f n = ap (flat_map f) (numbers_more 0 n ∙ rw zero-add refl) ∙
 -- one more variable
 module _ (facts : List RowFacts) (w : Bool) (r x : ℕ) (ps : List Place) (e : ps ≡ signed_held facts w r x) where
   abbrev within : List Place
-  within = signed w (get_or facts x no_facts).signs r (Var (record { 0 = x })) (get_or facts x no_facts).width
+  within = signed w (get_or facts x no_facts).ty.signs r (Var (record { 0 = x })) (get_or facts x no_facts).ty.width
 
   held_more : (b : Bool) → b ≡ has (get_or facts r no_facts).env x → ps ++ cond b within [] ≡ signed_held facts w r (x + 1)
   held_more b h =
       ap₂ (λ (l : List Place) (c : Bool). l ++ cond c within []) e h
-      ∙ sym (joined_numbers (λ y. cond (has (get_or facts r no_facts).env y) (signed w (get_or facts y no_facts).signs r (Var (record { 0 = y })) (get_or facts y no_facts).width) []) x)
+      ∙ sym (joined_numbers (λ y. cond (has (get_or facts r no_facts).env y) (signed w (get_or facts y no_facts).ty.signs r (Var (record { 0 = y })) (get_or facts y no_facts).ty.width) []) x)
 
   pub held_in : true ≡ has (get_or facts r no_facts).env x → ps ++ within ≡ signed_held facts w r (x + 1)
   held_in h = held_more true h
@@ -156,11 +147,11 @@ module _ (es : List TypeEntry) (rows : List Row) (facts : List RowFacts) (known 
         ∙ joined_same _ _ 0 (length rows)
         (λ x l m.
         let at_x = row_fact-at x no_facts (subst (λ n. x < n) (zero-add (length rows)) m) in
-        ap₂ (λ (f g : RowFacts). cond (has f.env x) (signed w g.signs r (Var (record { 0 = x })) g.width) []) here at_x
+        ap₂ (λ (f g : RowFacts). cond (has f.env x) (signed w g.ty.signs r (Var (record { 0 = x })) g.ty.width) []) here at_x
         ∙ ap (λ ps. cond (has (env_at rows r) x) ps []) (sym (in-variable x))
         ∙ sym (keep-cond wanted (has (env_at rows r) x) (places_in r (Var (record { 0 = x })) (tree_at es rows x))))
         ∙ sym (keep_joined wanted _ (numbers 0 (length rows))))
-        (ap (λ (f : RowFacts). signed (not w) f.signs r Ty f.width) here ∙ sym in-type)
+        (ap (λ (f : RowFacts). signed (not w) f.ty.signs r Ty f.ty.width) here ∙ sym in-type)
         ∙ sym (keep_append wanted _ (places_in r Ty (tree_at es rows r)))
 
   pub starts_are : 0 < length rows → starts_by facts rows ≡ starts es rows
@@ -172,20 +163,6 @@ module _ (es : List TypeEntry) (rows : List Row) (facts : List RowFacts) (known 
   pub ends_are : 0 < length rows → signed_at facts false (length facts - 1) ≡ ends es rows
   unfolding ends
   ends_are h = ap (λ n. signed_at facts false (n - 1)) length-row-facts ∙ signed-at false (length rows - 1) (omega arith)
-
--- the first place that is p, one place on
-module _ (ps : List Place) (p : Place) (i : ℕ) where
-  first_step : (b : Bool) (d : Place) → i < length ps → b ≡ same_place (get_or ps i d) p → wire_at (drop i ps) p ≡ cond b 0 (suc (wire_at (drop (i + 1) ps) p))
-  first_step b d h e = ap (λ l. wire_at l p) (drop_more ps i d h) ∙ ap (λ c. cond c 0 (suc (wire_at (drop (i + 1) ps) p))) (sym e)
-
-  pub first-here : (d : Place) → i < length ps → true ≡ same_place (get_or ps i d) p → i + wire_at (drop i ps) p ≡ wire_at ps p → i ≡ wire_at ps p
-  first-here d h e inv = omega (arith, first_step true d h e)
-
-  pub first_next : (d : Place) → i < length ps → false ≡ same_place (get_or ps i d) p → i + wire_at (drop i ps) p ≡ wire_at ps p → (i + 1) + wire_at (drop (i + 1) ps) p ≡ wire_at ps p
-  first_next d h e inv = omega (arith, first_step false d h e)
-
-  pub first_none : length ps ≤ i → i ≤ length ps → i + wire_at (drop i ps) p ≡ wire_at ps p → length ps ≡ wire_at ps p
-  first_none h l inv = omega (arith, ap (λ qs. wire_at qs p) (drop_all i ps h))
 
 -- as many places as bits
 length-bits : (es : List TypeEntry) (rows : List Row) (k : ℕ) (rest : List Row) → length (bit_places es rows k rest) ≡ length (bits rest)

@@ -23,6 +23,10 @@ gate_in (PairLambda p x y) = None
 gate_in (Apply f a) = None
 gate_in (Pair l r) = None
 
+-- the rule of row r, if there is such a row
+abbrev pub rule_found : List Row → ℕ → Option Rule
+rule_found rows r = cond (nat_lt r (length rows)) (Some (rule_at rows r)) None
+
 -- the gate of row r, if there is such a row
 abbrev pub gate_at : List Row → ℕ → Option GateName
 gate_at rows r = cond (nat_lt r (length rows)) (gate_in (rule_at rows r)) None

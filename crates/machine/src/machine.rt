@@ -1,20 +1,23 @@
 // The token machine of a derivation: its places, where tokens start, move and come to rest.
-ghost use Rattle.std.specs.Prelude.{◌≡◌, ℕ, ◌+◌, ◌-◌, ◌<◌, ◌≤◌, true, ◌&&◌, map, length, IfOk, if◌then◌else◌, Some, None, MatchResult, nat_eq, nat_lt};
-ghost use Rattle.derivation.specs.Accepted.{valid};
+ghost use Rattle.std.specs.Prelude.{◌≡◌, ◌+◌, ◌-◌, ◌<◌, ◌≤◌, true, ◌&&◌, map, length, IfOk, IfSome, is_some, if◌then◌else◌, Some, None, MatchResult, nat_eq, nat_lt};
 ghost use Rattle.basics.specs.Gates.{arity as arity_of};
-ghost use Rattle.derivation.specs.Judgements.{rule_at};
-ghost use Rattle.derivation.specs.Places.{negative, numbers};
-ghost use Rattle.derivation.specs.declared.rows.Part.TheVariants.{Ty, Variable as Var};
-ghost use Rattle.derivation.specs.declared.rows.Rule.TheVariants.{Apply, Lambda, Pair, PairLambda};
 ghost use Rattle.basics.specs.declared.refusal.Layer.TheVariants.{Bytes};
 ghost use Rattle.basics.specs.declared.refusal.Refusal.TheVariants.{OutOfMemory};
-ghost use Rattle.machine.specs.Calls.{end_at, gate_at, place_at, seat_at};
-ghost use Rattle.machine.specs.Facts.{facts_at, Known};
-ghost use Rattle.theory.specs.Ports.{across_own, across_premise, at as type_place, downward as downward_of, ends as ends_of, held as held_place, is_end, is_place, next as next_of, owner as owner_of, part_width, starts as starts_of, upward as upward_of, width as width_of};
+ghost use Rattle.derivation.specs.Accepted.{valid};
+ghost use Rattle.derivation.specs.Judgements.{env_at, rule_at, tree_at};
+ghost use Rattle.derivation.specs.Places.{negative, numbers};
+ghost use Rattle.derivation.specs.Sets.{has as member};
+ghost use Rattle.derivation.specs.declared.rows.Part.TheVariants.{Ty, Variable as Var};
+ghost use Rattle.derivation.specs.declared.rows.Rule.TheVariants.{Apply, Lambda, Pair, PairLambda};
+ghost use Rattle.machine.specs.Calls.{end_at, gate_at, place_at, rule_found, seat_at};
+ghost use Rattle.machine.specs.Facts.{facts_at, facts_found, facts_of, place_polarity, polarity_of};
+ghost use Rattle.theory.specs.Ports.{across_own, across_premise, at as type_place, downward as downward_of, ends as ends_of, held as held_place, is_end, is_place, next as next_of, owner as owner_of, starts as starts_of, width as width_of};
 ghost use Rattle.theory.specs.Theory.{Theory};
-ghost use Rattle.theory.specs.Tokens.{same_part, same_place, seats as seats_of, wire_at};
+ghost use Rattle.theory.specs.Tokens.{wire_at};
 
-use crate::tables::{RowFacts, at, has, held, last_places, row_facts, start_places};
+use crate::tables::{
+    Polarity, RowFacts, TypeFacts, at, has, held, last_places, row_facts, start_places,
+};
 use basics::gate::Gate;
 use basics::numbers::{EndId, RowId, Wire};
 use basics::refusal::Refusal;
@@ -31,7 +34,17 @@ pub struct Seat {
     pub arity: u8,
 }
 
+// A place that the derivation has, with the rule of its row and its polarity.
+#[derive(Clone, Copy)]
+struct Spot {
+    place: Place,
+    rule: Rule,
+    polarity: Polarity,
+    ghost few: { place.atom.0 ≤ 16 },
+}
+
 // A derivation that passed all checks, with what moves ask of each row, and the places where tokens start and end.
+// Contracts cite the types and the rows, and a ghost field holds no list: so they stand here beside the facts.
 #[derive(Drop)]
 pub struct Machine {
     types: Vec<TypeEntry>,
@@ -46,6 +59,8 @@ pub struct Machine {
 }
 
 impl Machine {
+    ghost use Rattle.machine.specs.Machines.{within};
+
     // The machine of the derivation in the holder.
     pub fn new(heap: Global, holder: &Holder) -> Result<Machine, Refusal>
         ensures copied { MatchResult result (λ m. (m.types.items ≡ holder.now.types.items) × (m.rows.items ≡ holder.now.rows.items)) (λ e. e ≡ OutOfMemory Bytes) }
@@ -60,7 +75,7 @@ impl Machine {
             holder.environments(),
         )?;
         let starts = start_places(heap, facts.as_slice(), rows.as_slice())?;
-        let ends = last_places(heap, facts.as_slice(), false)?;
+        let ends = last_places(heap, facts.as_slice(), Polarity::Positive)?;
         Ok(Machine {
             types,
             rows,
@@ -69,81 +84,88 @@ impl Machine {
             ends,
         })
     }
-    // What moves ask of row r; a row that there is not has a qubit's type and no environment.
-    fn fact(&self, r: RowId) -> RowFacts
-        ensures { Known self.now.types.items self.now.rows.items r.0 result }
+
+    // What moves ask of row r, if there is such a row.
+    fn fact(&self, r: RowId) -> Option<RowFacts>
+        ensures { result ≡ within self.now facts_found r.0 }
     {
-        let i = r.0 as usize;
-        if i < self.facts.len() {
-            self.facts[i]
-        } else {
-            RowFacts {
-                width: 1,
-                signs: 1,
-                env: 0,
-                below: 0,
-            }
-        }
+        self.facts.get(r.0 as usize).copied()
     }
 
-    // The rule of row r; of a row that there is not, one that no move goes through.
-    fn rule(&self, r: RowId) -> Rule
-        ensures { result ≡ rule_at self.now.rows.items r.0 }
+    // The rule of row r, if there is such a row.
+    fn rule(&self, r: RowId) -> Option<Rule>
+        ensures { result ≡ rule_found self.now.rows.items r.0 }
     {
-        let i = r.0 as usize;
-        if i < self.rows.len() {
-            self.rows[i].rule
-        } else {
-            Rule::Variable
-        }
+        self.rows.get(r.0 as usize).map(|row| row.rule)
     }
 
-    // The number of atoms in a part of row r; none in a variable that its environment lacks.
-    fn part_width(&self, r: RowId, part: Part) -> u8
-        ensures { result ≡ part_width self.now.types.items self.now.rows.items r.0 part }
+    // The type of row r. The definitions give a row that there is not a qubit's: with an Option here each caller
+    // would need a proof that the rows of its rule are there.
+    fn ty(&self, r: RowId) -> TypeFacts
+        ensures value { result ≡ facts_of (within self.now tree_at r.0) }
+        ensures few { result.width ≤ 16 }
     {
-        match part {
-            Part::Ty => self.fact(r).width,
+        self.fact(r).map_or(TypeFacts::QUBIT, |facts| facts.ty)
+    }
+
+    // Whether variable z is in the environment of row r.
+    fn holds(&self, r: RowId, z: RowId) -> bool
+        ensures { result ≡ member (env_at self.now.rows.items r.0) z.0 }
+    {
+        self.fact(r).is_some_and(|facts| has(facts.env, z.0))
+    }
+
+    // The polarity of p, if its part has so many atoms; a variable that the environment lacks has none.
+    // A place in a variable has the reverse of its atom's polarity.
+    fn polarity(&self, p: Place) -> Option<Polarity>
+        ensures { result ≡ within self.now place_polarity p }
+    {
+        match p.part {
+            Part::Ty => self.ty(p.row).polarity(p.atom.0),
             Part::Variable(x) => {
-                if has(self.fact(r).env, x.0) {
-                    self.fact(x).width
-                } else {
-                    0
+                if !self.holds(p.row, x) {
+                    return None;
                 }
+                Some(self.ty(x).polarity(p.atom.0)?.reversed())
             }
         }
+    }
+
+    // Place p, if the derivation has it.
+    fn spot(&self, p: Place) -> Option<Spot>
+        ensures there { is_some result ≡ within self.now is_place p }
+        ensures same { IfSome result (λ s. s.place ≡ p) }
+        ensures ruled { IfSome result (λ s. s.rule ≡ rule_at self.now.rows.items p.row.0) }
+        ensures signed { IfSome result (λ s. s.polarity ≡ polarity_of (within self.now negative p)) }
+    {
+        let rule = self.rule(p.row)?;
+        let polarity = self.polarity(p)?;
+        Some(Spot {
+            place: p,
+            rule,
+            polarity,
+        })
     }
 
     // Whether p is a place of the derivation: a row, a part of it and an atom of that part.
     pub fn is_place(&self, p: Place) -> bool
         ensures { result ≡ is_place self.now.types.items self.now.rows.items p }
     {
-        (p.row.0 as usize) < self.rows.len() && p.atom.0 < self.part_width(p.row, p.part)
-    }
-
-    // Whether a token at p climbs. A place in a variable has the reverse of its atom's polarity.
-    fn is_negative(&self, p: Place) -> bool
-        requires { is_place self.now.types.items self.now.rows.items p ≡ true }
-        ensures { result ≡ negative self.now.types.items self.now.rows.items p }
-    {
-        match p.part {
-            Part::Ty => !has(self.fact(p.row).signs as u128, p.atom.0),
-            Part::Variable(x) => has(self.fact(x).signs as u128, p.atom.0),
-        }
+        self.spot(p).is_some()
     }
 
     // The premise of two that has variable z.
     fn owner(&self, p: RowId, q: RowId, z: RowId) -> RowId
-        ensures { result.0 ≡ owner_of self.now.types.items self.now.rows.items p.0 q.0 z.0 }
+        ensures { result.0 ≡ within self.now owner_of p.0 q.0 z.0 }
     {
-        if has(self.fact(p).env, z.0) { p } else { q }
+        if self.holds(p, z) { p } else { q }
     }
 
     // From atom i of a lambda's type: its first atoms are those of variable x.
     fn lambda_up(&self, premise: RowId, x: RowId, i: u8) -> Place
-        ensures { Some result ≡ across_own self.now.types.items self.now.rows.items 0 (Lambda premise x) Ty i }
+        ensures { Some result ≡ within self.now across_own 0 (Lambda premise x) Ty i }
     {
-        let width = self.fact(x).width;
+        let width = self.ty(x).width;
         if i < width {
             held(premise, x, i)
         } else {
@@ -153,10 +175,10 @@ impl Machine {
 
     // The same of a pair lambda: first the atoms of x, then those of y.
     fn pair_lambda_up(&self, premise: RowId, x: RowId, y: RowId, i: u8) -> Place
-        ensures { Some result ≡ across_own self.now.types.items self.now.rows.items 0 (PairLambda premise x y) Ty i }
+        ensures { Some result ≡ within self.now across_own 0 (PairLambda premise x y) Ty i }
     {
-        let first = self.fact(x).width;
-        let both = first + self.fact(y).width;
+        let first = self.ty(x).width;
+        let both = first + self.ty(y).width;
         if i < first {
             held(premise, x, i)
         } else if i < both {
@@ -168,9 +190,9 @@ impl Machine {
 
     // From atom i of a pair's type: first the atoms of its left part.
     fn pair_up(&self, left: RowId, right: RowId, i: u8) -> Place
-        ensures { Some result ≡ across_own self.now.types.items self.now.rows.items 0 (Pair left right) Ty i }
+        ensures { Some result ≡ within self.now across_own 0 (Pair left right) Ty i }
     {
-        let width = self.fact(left).width;
+        let width = self.ty(left).width;
         if i < width {
             at(left, i)
         } else {
@@ -178,27 +200,28 @@ impl Machine {
         }
     }
 
-    // From atom i of the type of row r through its own rule.
-    fn type_up(&self, r: RowId, rule: Rule, i: u8) -> Option<Place>
-        requires { i ≤ 16 }
-        ensures { result ≡ across_own self.now.types.items self.now.rows.items r.0 rule Ty i }
+    // From an atom of its row's type through the row's own rule.
+    fn type_up(&self, s: Spot) -> Option<Place>
+        ensures { result ≡ within self.now across_own s.place.row.0 s.rule Ty s.place.atom.0 }
     {
-        match rule {
+        let (r, i) = (s.place.row, s.place.atom.0);
+        match s.rule {
             Rule::Variable => Some(held(r, r, i)),
             Rule::Zero | Rule::One => None,
-            Rule::Gate(gate) => Some(gate_across(r, gate, i)),
+            Rule::Gate(gate) => Some(gate_across(s, gate)),
             Rule::Lambda { premise, x } => Some(self.lambda_up(premise, x, i)),
             Rule::PairLambda { premise, x, y } => Some(self.pair_lambda_up(premise, x, y, i)),
-            Rule::Apply { function, argument } => Some(at(function, self.fact(argument).width + i)),
+            Rule::Apply { function, argument } => Some(at(function, self.ty(argument).width + i)),
             Rule::Pair { left, right } => Some(self.pair_up(left, right, i)),
         }
     }
 
-    // From atom i of variable z of row r through its own rule.
-    fn variable_up(&self, r: RowId, rule: Rule, z: RowId, i: u8) -> Option<Place>
-        ensures { result ≡ across_own self.now.types.items self.now.rows.items r.0 rule (Var z) i }
+    // From an atom of variable z through its row's own rule.
+    fn variable_up(&self, s: Spot, z: RowId) -> Option<Place>
+        ensures { result ≡ within self.now across_own s.place.row.0 s.rule (Var z) s.place.atom.0 }
     {
-        match rule {
+        let (r, i) = (s.place.row, s.place.atom.0);
+        match s.rule {
             Rule::Variable => Some(at(r, i)),
             Rule::Zero | Rule::One | Rule::Gate(_) => None,
             Rule::Lambda { premise, .. } | Rule::PairLambda { premise, .. } => Some(held(
@@ -212,40 +235,39 @@ impl Machine {
         }
     }
 
-    // From p through the rule of its own row.
-    fn upward(&self, p: Place) -> Option<Place>
-        requires { is_place self.now.types.items self.now.rows.items p ≡ true }
-        ensures { result ≡ upward_of self.now.types.items self.now.rows.items p }
+    // Through the rule of its own row.
+    fn upward(&self, s: Spot) -> Option<Place>
+        ensures { result ≡ within self.now across_own s.place.row.0 s.rule s.place.part s.place.atom.0 }
     {
-        let rule = self.rule(p.row);
-        match p.part {
-            Part::Ty => self.type_up(p.row, rule, p.atom.0),
-            Part::Variable(z) => self.variable_up(p.row, rule, z, p.atom.0),
+        match s.place.part {
+            Part::Ty => self.type_up(s),
+            Part::Variable(z) => self.variable_up(s, z),
         }
     }
 
-    // From atom i of variable z of a pair lambda's body: x and y are bound.
-    fn pair_lambda_down(&self, r: RowId, x: RowId, y: RowId, z: RowId, i: u8) -> Place
-        requires { i ≤ 16 }
-        ensures { result ≡ (if nat_eq z.0 x.0 then type_place r.0 i else (if nat_eq z.0 y.0 then type_place r.0 (width_of self.now.types.items self.now.rows.items x.0 + i) else held_place r.0 z.0 i)) }
+    // From an atom of variable z of a pair lambda's body: x and y are bound.
+    fn pair_lambda_down(&self, s: Spot, r: RowId, x: RowId, y: RowId, z: RowId) -> Place
+        ensures { result ≡ (if nat_eq z.0 x.0 then type_place r.0 s.place.atom.0 else (if nat_eq z.0 y.0 then type_place r.0 (within self.now width_of x.0 + s.place.atom.0) else held_place r.0 z.0 s.place.atom.0)) }
     {
-        if z.0 == x.0 {
+        let i = s.place.atom.0;
+        if z == x {
             at(r, i)
-        } else if z.0 == y.0 {
-            at(r, self.fact(x).width + i)
+        } else if z == y {
+            at(r, self.ty(x).width + i)
         } else {
             held(r, z, i)
         }
     }
 
-    // From atom i of the type of an application's premise q: a function's first atoms are its argument's.
-    fn apply_down(&self, r: RowId, function: RowId, argument: RowId, q: RowId, i: u8) -> Place
-        ensures { Some result ≡ across_premise self.now.types.items self.now.rows.items r.0 (Apply function argument) q.0 Ty i }
+    // From an atom of the type of an application's premise: a function's first atoms are its argument's.
+    fn apply_down(&self, s: Spot, r: RowId, function: RowId, argument: RowId) -> Place
+        ensures { Some result ≡ within self.now across_premise r.0 (Apply function argument) s.place.row.0 Ty s.place.atom.0 }
     {
-        if q.0 != function.0 {
+        let i = s.place.atom.0;
+        if s.place.row != function {
             return at(function, i);
         }
-        let width = self.fact(argument).width;
+        let width = self.ty(argument).width;
         if i < width {
             at(argument, i)
         } else {
@@ -253,60 +275,55 @@ impl Machine {
         }
     }
 
-    // From atom i of the type of a pair's part q: the atoms of the left part come first.
-    fn pair_down(&self, r: RowId, left: RowId, q: RowId, i: u8) -> Place
-        requires { i ≤ 16 }
-        ensures { result ≡ (if nat_eq q.0 left.0 then type_place r.0 i else type_place r.0 (width_of self.now.types.items self.now.rows.items left.0 + i)) }
+    // From an atom of the type of a pair's part: the atoms of the left part come first.
+    fn pair_down(&self, s: Spot, r: RowId, left: RowId) -> Place
+        ensures { result ≡ (if nat_eq s.place.row.0 left.0 then type_place r.0 s.place.atom.0 else type_place r.0 (within self.now width_of left.0 + s.place.atom.0)) }
     {
-        if q.0 == left.0 {
+        let i = s.place.atom.0;
+        if s.place.row == left {
             at(r, i)
         } else {
-            at(r, self.fact(left).width + i)
+            at(r, self.ty(left).width + i)
         }
     }
 
-    // From atom i of the type of premise q through the rule of the row r below it.
-    fn type_down(&self, r: RowId, rule: Rule, q: RowId, i: u8) -> Option<Place>
-        requires { i ≤ 16 }
-        ensures { result ≡ across_premise self.now.types.items self.now.rows.items r.0 rule q.0 Ty i }
+    // From an atom of a premise's type through the rule of the row r below it.
+    fn type_down(&self, s: Spot, r: RowId, rule: Rule) -> Option<Place>
+        ensures { result ≡ within self.now across_premise r.0 rule s.place.row.0 Ty s.place.atom.0 }
     {
+        let i = s.place.atom.0;
         match rule {
             Rule::Variable | Rule::Zero | Rule::One | Rule::Gate(_) => None,
-            Rule::Lambda { x, .. } => Some(at(r, self.fact(x).width + i)),
-            Rule::PairLambda { x, y, .. } => Some(at(
-                r,
-                self.fact(x).width + self.fact(y).width + i,
-            )),
-            Rule::Apply { function, argument } => Some(self.apply_down(
-                r, function, argument, q, i,
-            )),
-            Rule::Pair { left, .. } => Some(self.pair_down(r, left, q, i)),
+            Rule::Lambda { x, .. } => Some(at(r, self.ty(x).width + i)),
+            Rule::PairLambda { x, y, .. } => Some(at(r, self.ty(x).width + self.ty(y).width + i)),
+            Rule::Apply { function, argument } => Some(self.apply_down(s, r, function, argument)),
+            Rule::Pair { left, .. } => Some(self.pair_down(s, r, left)),
         }
     }
 
-    // From atom i of variable z of premise q through the rule of the row r below it.
-    fn variable_down(&self, r: RowId, rule: Rule, q: RowId, z: RowId, i: u8) -> Option<Place>
-        requires { i ≤ 16 }
-        ensures { result ≡ across_premise self.now.types.items self.now.rows.items r.0 rule q.0 (Var z) i }
+    // From an atom of variable z of a premise through the rule of the row r below it.
+    fn variable_down(&self, s: Spot, r: RowId, rule: Rule, z: RowId) -> Option<Place>
+        ensures { result ≡ within self.now across_premise r.0 rule s.place.row.0 (Var z) s.place.atom.0 }
     {
+        let i = s.place.atom.0;
         match rule {
             Rule::Variable | Rule::Zero | Rule::One | Rule::Gate(_) => None,
             Rule::Lambda { x, .. } => Some(lambda_down(r, x, z, i)),
-            Rule::PairLambda { x, y, .. } => Some(self.pair_lambda_down(r, x, y, z, i)),
+            Rule::PairLambda { x, y, .. } => Some(self.pair_lambda_down(s, r, x, y, z)),
             Rule::Apply { .. } | Rule::Pair { .. } => Some(held(r, z, i)),
         }
     }
 
-    // From p through the rule of the row below its own.
-    fn downward(&self, p: Place) -> Option<Place>
-        requires { is_place self.now.types.items self.now.rows.items p ≡ true }
-        ensures { result ≡ downward_of self.now.types.items self.now.rows.items p }
+    // Through the rule of the row below its own.
+    fn downward(&self, s: Spot) -> Option<Place>
+        requires { s.place.row.0 < length self.now.rows.items }
+        ensures { result ≡ within self.now downward_of s.place }
     {
-        let r = RowId(self.fact(p.row).below);
-        let rule = self.rule(r);
-        match p.part {
-            Part::Ty => self.type_down(r, rule, p.row, p.atom.0),
-            Part::Variable(z) => self.variable_down(r, rule, p.row, z, p.atom.0),
+        let r = self.fact(s.place.row)?.below?;
+        let rule = self.rule(r)?;
+        match s.place.part {
+            Part::Ty => self.type_down(s, r, rule),
+            Part::Variable(z) => self.variable_down(s, r, rule, z),
         }
     }
 
@@ -314,13 +331,10 @@ impl Machine {
     pub fn next(&self, p: Place) -> Option<Place>
         ensures { result ≡ (if is_place self.now.types.items self.now.rows.items p then next_of self.now.types.items self.now.rows.items p else None) }
     {
-        if !self.is_place(p) {
-            return None;
-        }
-        if self.is_negative(p) {
-            self.upward(p)
-        } else {
-            self.downward(p)
+        let spot = self.spot(p)?;
+        match spot.polarity {
+            Polarity::Negative => self.upward(spot),
+            Polarity::Positive => self.downward(spot),
         }
     }
 
@@ -328,25 +342,20 @@ impl Machine {
     pub fn is_end(&self, p: Place) -> bool
         ensures { result ≡ (is_place self.now.types.items self.now.rows.items p && is_end self.now.types.items self.now.rows.items p) }
     {
-        if !self.is_place(p) {
-            return false;
-        }
-        p.row.0 as usize == self.rows.len() - 1 && !self.is_negative(p)
+        self.spot(p).is_some_and(|spot| {
+            p.row.0 as usize == self.rows.len() - 1 && spot.polarity == Polarity::Positive
+        })
     }
 
     // The seat that is at p, if a gate waits for a token there.
     pub fn seat(&self, p: Place) -> Option<Seat>
         ensures { result ≡ seat_at self.now.types.items self.now.rows.items p }
     {
-        if !self.is_place(p) {
-            return None;
-        }
-        let arity = seats(self.rule(p.row));
-        match p.part {
-            Part::Ty if p.atom.0 < arity => Some(Seat {
+        match (self.spot(p)?.rule, p.part) {
+            (Rule::Gate(gate), Part::Ty) if p.atom.0 < gate.arity() => Some(Seat {
                 row: p.row,
                 number: p.atom.0,
-                arity,
+                arity: gate.arity(),
             }),
             _ => None,
         }
@@ -356,11 +365,7 @@ impl Machine {
     pub fn gate(&self, r: RowId) -> Option<Gate>
         ensures { result ≡ gate_at self.now.rows.items r.0 }
     {
-        let i = r.0 as usize;
-        if i >= self.rows.len() {
-            return None;
-        }
-        match self.rows[i].rule {
+        match self.rule(r)? {
             Rule::Gate(gate) => Some(gate),
             _ => None,
         }
@@ -391,32 +396,23 @@ impl Machine {
     pub fn start(&self, w: Wire) -> Option<Place>
         ensures { result ≡ place_at (starts_of self.now.types.items self.now.rows.items) w.0 }
     {
-        let i = w.0 as usize;
-        if i < self.starts.len() {
-            Some(self.starts[i])
-        } else {
-            None
-        }
+        self.starts.get(w.0 as usize).copied()
     }
 
     // The number of the end at p.
     pub fn end_number(&self, p: Place) -> Option<EndId>
         ensures { result ≡ end_at (ends_of self.now.types.items self.now.rows.items) p }
     {
-        let n = position(self.ends.as_slice(), p);
-        if n < self.ends.len() && n < 256 {
-            Some(EndId(n as u8))
-        } else {
-            None
-        }
+        let n = self.ends.iter().position(|q| *q == p)?;
+        u8::try_from(n).ok().map(EndId)
     }
 }
 
 // Between the wires of a gate and its results: first the atoms of the one, then those of the other.
-fn gate_across(r: RowId, gate: Gate, i: u8) -> Place
-    requires { i ≤ 16 }
-    ensures { result ≡ (if nat_lt i (arity_of gate) then type_place r.0 (arity_of gate + i) else type_place r.0 (i - arity_of gate)) }
+fn gate_across(s: Spot, gate: Gate) -> Place
+    ensures { result ≡ (if nat_lt s.place.atom.0 (arity_of gate) then type_place s.place.row.0 (arity_of gate + s.place.atom.0) else type_place s.place.row.0 (s.place.atom.0 - arity_of gate)) }
 {
+    let (r, i) = (s.place.row, s.place.atom.0);
     let arity = gate.arity();
     if i < arity {
         at(r, arity + i)
@@ -429,43 +425,12 @@ fn gate_across(r: RowId, gate: Gate, i: u8) -> Place
 fn lambda_down(r: RowId, x: RowId, z: RowId, i: u8) -> Place
     ensures { result ≡ (if nat_eq z.0 x.0 then type_place r.0 i else held_place r.0 z.0 i) }
 {
-    if z.0 == x.0 { at(r, i) } else { held(r, z, i) }
-}
-
-// How many tokens a rule wants before one passes; rules other than gates want none to wait.
-fn seats(rule: Rule) -> u8
-    ensures { result ≡ seats_of rule }
-{
-    match rule {
-        Rule::Gate(gate) => gate.arity(),
-        _ => 0,
-    }
-}
-
-fn same_part(p: Part, q: Part) -> bool
-    ensures { result ≡ same_part p q }
-{
-    match (p, q) {
-        (Part::Ty, Part::Ty) => true,
-        (Part::Variable(x), Part::Variable(y)) => x.0 == y.0,
-        (Part::Ty, Part::Variable(_)) | (Part::Variable(_), Part::Ty) => false,
-    }
-}
-
-fn same_place(p: Place, q: Place) -> bool
-    ensures { result ≡ same_place p q }
-{
-    p.row.0 == q.row.0 && same_part(p.part, q.part) && p.atom.0 == q.atom.0
+    if z == x { at(r, i) } else { held(r, z, i) }
 }
 
 // The number of the first place that is p, or how many places there are if none is.
 pub fn position(places: &[Place], p: Place) -> usize
     ensures { result ≡ wire_at places.now p }
 {
-    for (i, q) in places.iter().enumerate() {
-        if same_place(*q, p) {
-            return i;
-        }
-    }
-    places.len()
+    places.iter().position(|q| *q == p).unwrap_or(places.len())
 }

@@ -1,5 +1,5 @@
 // What a machine knows of a derivation's types and rows before anything moves.
-ghost use Rattle.std.specs.Prelude.{◌≡◌, ℕ, ◌+◌, ◌-◌, ◌^◌, ◌<◌, ◌≤◌, true, [], ◌++◌, map, length, MatchResult, OnOk, slice_index};
+ghost use Rattle.std.specs.Prelude.{◌≡◌, ℕ, ◌+◌, ◌-◌, ◌^◌, ◌<◌, ◌≤◌, true, not, [], ◌++◌, map, length, MatchResult, OnOk, slice_index_or};
 ghost use Rattle.derivation.specs.Accepted.{Accepted, Table};
 ghost use Rattle.derivation.specs.Judgements.{rule_at};
 ghost use Rattle.derivation.specs.Places.{is_bit, numbers};
@@ -8,7 +8,7 @@ ghost use Rattle.derivation.specs.Sets.{has as member};
 ghost use Rattle.derivation.specs.Trees.{trees};
 ghost use Rattle.basics.specs.declared.refusal.Layer.TheVariants.{Bytes};
 ghost use Rattle.basics.specs.declared.refusal.Refusal.TheVariants.{OutOfMemory};
-ghost use Rattle.machine.specs.Facts.{facts_at, facts_of, joined_facts, marked, signed, signed_at, starts_by};
+ghost use Rattle.machine.specs.Facts.{atom_polarity, facts_at, facts_of, is_positive, joined_facts, marked, polarity_of, row_of, signed, signed_at, starts_by};
 ghost use Rattle.theory.specs.Ports.{at as type_place, below_from, bit_places, held as held_place};
 
 use basics::numbers::{Atom, RowId};
@@ -17,6 +17,24 @@ use derivation::rows::{Part, Place, Row, Rule};
 use derivation::types::{TypeEntry, TypeKind};
 use std::alloc::{AllocFailed, Global};
 
+// Whether a token at a place climbs, as at a negative one, or descends.
+#[derive(Clone, Copy, Debug, PartialEq, Eq)]
+pub(crate) enum Polarity {
+    Negative,
+    Positive,
+}
+
+impl Polarity {
+    pub(crate) fn reversed(self) -> Polarity
+        ensures { result ≡ polarity_of (is_positive self) }
+    {
+        match self {
+            Polarity::Negative => Polarity::Positive,
+            Polarity::Positive => Polarity::Negative,
+        }
+    }
+}
+
 // The number of atoms of a type, and which of them are positive: bit i of the signs is set if atom i is.
 #[derive(Clone, Copy)]
 pub(crate) struct TypeFacts {
@@ -24,14 +42,29 @@ pub(crate) struct TypeFacts {
     pub(crate) signs: u16,
 }
 
-// What moves ask of a row: the number of atoms of its type and which are positive, its environment,
-// and the row below it, which has it as a premise; the number of rows if none has.
+impl TypeFacts {
+    // A qubit's: one atom, which is positive.
+    pub(crate) const QUBIT: TypeFacts = TypeFacts { width: 1, signs: 1 };
+
+    // The polarity of atom i, if there are so many.
+    pub(crate) fn polarity(self, i: u8) -> Option<Polarity>
+        ensures { result ≡ atom_polarity self i }
+    {
+        let positive = has(self.signs as u128, i);
+        (i < self.width).then_some(if positive {
+            Polarity::Positive
+        } else {
+            Polarity::Negative
+        })
+    }
+}
+
+// What moves ask of a row: its type, its environment, and the row below it, which has it as a premise.
 #[derive(Clone, Copy)]
-pub struct RowFacts {
-    pub width: u8,
-    pub signs: u16,
-    pub env: u128,
-    pub below: u8,
+pub(crate) struct RowFacts {
+    pub(crate) ty: TypeFacts,
+    pub(crate) env: u128,
+    pub(crate) below: Option<RowId>,
 }
 
 // The facts of an arrow or a pair, by those of its parts. An arrow reverses the polarity of its left part.
@@ -57,7 +90,7 @@ fn type_facts(heap: Global, types: &[TypeEntry]) -> Result<Vec<TypeFacts>, Refus
     ensures { MatchResult result (λ v. v.items ≡ map facts_of (trees types.now)) (λ e. e ≡ OutOfMemory Bytes) }
 {
     let mut facts = Vec::new(heap);
-    facts.push(TypeFacts { width: 1, signs: 1 })?;
+    facts.push(TypeFacts::QUBIT)?;
     for entry in types {
         let left = facts[entry.left.0 as usize];
         let right = facts[entry.right.0 as usize];
@@ -66,36 +99,37 @@ fn type_facts(heap: Global, types: &[TypeEntry]) -> Result<Vec<TypeFacts>, Refus
     Ok(facts)
 }
 
-// Puts r below each premise of the rule.
-fn mark(below: &mut [u8], rule: Rule, r: u8)
+// Puts row r below each premise of its rule.
+fn mark(below: &mut [Option<RowId>], r: RowId, rule: Rule)
     requires { all_below (length below.old) (premises rule) ≡ true }
-    ensures { below.new ≡ marked below.old (premises rule) r }
+    ensures { below.new ≡ marked below.old (premises rule) (Some r) }
 {
     match rule {
         Rule::Variable | Rule::Zero | Rule::One | Rule::Gate(_) => {}
         Rule::Lambda { premise, .. } | Rule::PairLambda { premise, .. } => {
-            below[premise.0 as usize] = r;
+            below[premise.0 as usize] = Some(r);
         }
         Rule::Apply {
             function: p,
             argument: q,
         }
         | Rule::Pair { left: p, right: q } => {
-            below[p.0 as usize] = r;
-            below[q.0 as usize] = r;
+            below[p.0 as usize] = Some(r);
+            below[q.0 as usize] = Some(r);
         }
     }
 }
 
 // The row below each row, from the last row to the first.
-fn below_rows(rows: &[Row]) -> [u8; 128]
+fn below_rows(rows: &[Row]) -> [Option<RowId>; 128]
     requires few { length rows.now ≤ 128 }
-    requires lower { (r : ℕ) → r < length rows.now → all_below r (premises (rule_at rows.now r)) ≡ true }
-    ensures { (q : ℕ) → q < 128 → slice_index result q ≡ below_from 0 rows.now q }
+    requires lower { (r : ℕ) → r < length rows.now → all_below 128 (premises (rule_at rows.now r)) ≡ true }
+    ensures size { length result ≡ 128 }
+    ensures under { (q : ℕ) → q < 128 → slice_index_or result q None ≡ row_of (length rows.now) (below_from 0 rows.now q) }
 {
-    let mut below = [rows.len() as u8; 128];
-    for r in (0..rows.len()).rev() {
-        mark(&mut below, rows[r].rule, r as u8);
+    let mut below = [None; 128];
+    for (r, row) in rows.iter().enumerate().rev() {
+        mark(&mut below, RowId(r as u8), row.rule);
     }
     below
 }
@@ -114,13 +148,11 @@ pub(crate) fn row_facts(
     let table = type_facts(heap, types)?;
     let below = below_rows(rows);
     let mut facts = Vec::new(heap);
-    for r in 0..rows.len() {
-        let ty = table[rows[r].ty.0 as usize];
+    for (row, (env, below)) in rows.iter().zip(envs.iter().zip(&below)) {
         facts.push(RowFacts {
-            width: ty.width,
-            signs: ty.signs,
-            env: envs[r],
-            below: below[r],
+            ty: table[row.ty.0 as usize],
+            env: *env,
+            below: *below,
         })?;
     }
     Ok(facts)
@@ -133,27 +165,34 @@ pub(crate) fn has(set: u128, x: u8) -> bool
     x < 128 && (set >> x) & 1 == 1
 }
 
-// Adds the places in one part of row r: those whose atoms are in the signs or, if that is wanted, are not.
-fn push_signed(
-    places: &mut Vec<Place>,
-    wanted: bool,
-    signs: u16,
-    r: RowId,
+// A part of a row, with the facts of its type.
+#[derive(Clone, Copy)]
+struct PartFacts {
+    row: RowId,
     part: Part,
-    width: u8,
-) -> Result<(), AllocFailed<Place>>
-    ensures { OnOk result (places.new.items ≡ places.old.items ++ signed wanted signs r.0 part width) }
-{
-    for i in 0..width {
-        if has(signs as u128, i) == wanted {
-            places.push(Place {
-                row: r,
-                part,
-                atom: Atom(i),
-            })?;
+    ty: TypeFacts,
+}
+
+impl PartFacts {
+    // Adds the places in the part whose atoms have the polarity.
+    fn push_places(
+        self,
+        places: &mut Vec<Place>,
+        polarity: Polarity,
+    ) -> Result<(), AllocFailed<Place>>
+        ensures { OnOk result (places.new.items ≡ places.old.items ++ signed (is_positive polarity) self.ty.signs self.row.0 self.part self.ty.width) }
+    {
+        for i in 0..self.ty.width {
+            if self.ty.polarity(i) == Some(polarity) {
+                places.push(Place {
+                    row: self.row,
+                    part: self.part,
+                    atom: Atom(i),
+                })?;
+            }
         }
+        Ok(())
     }
-    Ok(())
 }
 
 // Atom i of the type of row r.
@@ -178,41 +217,37 @@ pub(crate) fn held(r: RowId, x: RowId, i: u8) -> Place
     }
 }
 
-// The negative places of the last row or, if not wanted, the positive ones.
+// The places of the last row that have the polarity.
 // A place in a variable has the reverse of its atom's polarity.
 pub(crate) fn last_places(
     heap: Global,
     facts: &[RowFacts],
-    negative: bool,
+    polarity: Polarity,
 ) -> Result<Vec<Place>, Refusal>
     requires some { 0 < length facts.now }
     requires few { length facts.now ≤ 128 }
-    ensures { MatchResult result (λ v. v.items ≡ signed_at facts.now negative (length facts.now - 1)) (λ e. e ≡ OutOfMemory Bytes) }
+    ensures { MatchResult result (λ v. v.items ≡ signed_at facts.now (not (is_positive polarity)) (length facts.now - 1)) (λ e. e ≡ OutOfMemory Bytes) }
 {
     let last = facts.len() - 1;
-    let r = RowId(last as u8);
+    let row = RowId(last as u8);
+    let own = facts[last];
     let mut places = Vec::new(heap);
-    for x in 0..facts.len() {
-        if has(facts[last].env, x as u8) {
-            let part = Part::Variable(RowId(x as u8));
-            push_signed(
-                &mut places,
-                negative,
-                facts[x].signs,
-                r,
-                part,
-                facts[x].width,
-            )?;
+    for (x, bound) in facts.iter().enumerate() {
+        if has(own.env, x as u8) {
+            let variable = PartFacts {
+                row,
+                part: Part::Variable(RowId(x as u8)),
+                ty: bound.ty,
+            };
+            variable.push_places(&mut places, polarity.reversed())?;
         }
     }
-    push_signed(
-        &mut places,
-        !negative,
-        facts[last].signs,
-        r,
-        Part::Ty,
-        facts[last].width,
-    )?;
+    let ty = PartFacts {
+        row,
+        part: Part::Ty,
+        ty: own.ty,
+    };
+    ty.push_places(&mut places, polarity)?;
     Ok(places)
 }
 
@@ -250,7 +285,7 @@ pub(crate) fn start_places(
     requires few_rows { length rows.now ≤ 128 }
     ensures { MatchResult result (λ v. v.items ≡ starts_by facts.now rows.now) (λ e. e ≡ OutOfMemory Bytes) }
 {
-    let mut places = last_places(heap, facts, true)?;
+    let mut places = last_places(heap, facts, Polarity::Negative)?;
     push_bits(&mut places, rows)?;
     Ok(places)
 }

@@ -1,15 +1,34 @@
 -- Each variable of the last row's environment adds its places.
-use Rattle.std.proofs.Common.{◌-◌, length, vec_items, ap, ◌∙◌}
+use Rattle.std.proofs.Common.{◌≡◌, ◌-◌, ◌++◌, not, length, get_or, vec_items, sym, ap, ◌∙◌, ap₂, arith}
+use Rattle.derivation.specs.declared.rows.Part.TheVariants.{Ty, Variable as Var}
+use Rattle.machine.specs.Facts.{is_positive, no_facts, signed, signed_held}
+use Rattle.machine.proofs.PlaceTests.{not_not, reversed-positive}
 use Rattle.machine.proofs.StartTables.{held_in, held_out}
 use Rattle.machine.proofs.tables.last_places.Goals as goal
-use Rattle.machine.proofs.tables.last_places.Goals.{then-has+in_ok-push_signed, else-has}
+use Rattle.machine.proofs.tables.last_places.Goals.{then-has+in_ok-push_places, else-has}
 
 pub loop-x-preserved : goal.loop-x-preserved
 loop-x-preserved c =
     let facts = c.args.facts.now in
+    let last = length facts - 1 in
+    let x = c.loop-x.x in
+    let f = get_or facts x no_facts in
     let ps = vec_items c.loop-x.places in
+    let climbs = not (is_positive c.args.polarity) in
     elim c.if-has.branch [
-      | then-has+in_ok-push_signed w ↦
-          ap vec_items w.places-is ∙ w.in_ok-push_signed.ensures ∙ held_in facts c.args.negative (length facts - 1) c.loop-x.x ps c.loop-x.invariant w.if-has.ensures
-      | else-has w ↦ ap vec_items w.places-is ∙ held_out facts c.args.negative (length facts - 1) c.loop-x.x ps c.loop-x.invariant w.if-has.ensures
+      | then-has+in_ok-push_places w ↦
+          ap vec_items w.places-is ∙ w.in_ok-push_places.ensures
+          ∙ ap (λ b. ps ++ signed b f.ty.signs last (Var (record { 0 = x })) f.ty.width) (ap is_positive w.reversed.ensures ∙ reversed-positive c.args.polarity)
+          ∙ held_in facts climbs last x ps c.loop-x.invariant (sym w.if-has.true ∙ c.has.ensures)
+      | else-has w ↦ ap vec_items w.places-is ∙ held_out facts climbs last x ps c.loop-x.invariant (sym w.if-has.false ∙ c.has.ensures)
     ]
+
+pub returns : goal.returns
+returns c =
+    let facts = c.args.facts.now in
+    let last = length facts - 1 in
+    let f = get_or facts last no_facts in
+    let all : c.loop-x.x ≡ length facts = omega (arith, c.loop-x.auto.x-end, c.loop-x-test.false) in
+    c.in_ok-push_places-2.ensures
+    ∙ ap₂ (λ ps b. ps ++ signed b f.ty.signs last Ty f.ty.width)
+    (c.loop-x.invariant ∙ ap (signed_held facts (not (is_positive c.args.polarity)) last) all) (sym (not_not (is_positive c.args.polarity)))

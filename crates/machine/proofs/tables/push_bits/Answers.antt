@@ -2,7 +2,7 @@
 use Rattle.std.proofs.Common.{◌+◌, [], ◌∷◌, ◌++◌, drop, vec_items, ap, ◌∙◌}
 use Rattle.derivation.specs.declared.rows.Place.{Place}
 use Rattle.theory.specs.Ports.{bit_places}
-use Rattle.machine.proofs.StartTables.{bits_in, bits_out, bits-all}
+use Rattle.machine.proofs.StartTables.{bits_in, bits_out}
 use Rattle.machine.proofs.tables.push_bits.Goals as goal
 use Rattle.machine.proofs.tables.push_bits.Goals.{then-is_bit+in_ok-push, else-is_bit}
 
@@ -18,6 +18,3 @@ loop-r-preserved c =
           ∙ bits_in rows r c.loop-r-test.true ps w.if-is_bit.ensures ∙ c.loop-r.invariant
       | else-is_bit w ↦ ap (λ l. l ++ left) (ap vec_items w.places-is) ∙ bits_out rows r c.loop-r-test.true ps w.if-is_bit.ensures ∙ c.loop-r.invariant
     ]
-
-pub returns : goal.returns
-returns c = bits-all c.args.rows.now c.loop-r.r c.loop-r-test.false (vec_items c.loop-r.places) ∙ c.loop-r.invariant

@@ -1,10 +1,8 @@
 -- The loop over the table: the parts of an entry are lower, so their facts are known.
-use Rattle.std.proofs.Common.{[], ◌∷◌, ◌++◌, map, vec_items, ap, ◌∙◌, arith}
-use Rattle.std.proofs.lemmas.List.{take_all}
+use Rattle.std.proofs.Common.{[], ◌∷◌, ◌++◌, vec_items, ap, ◌∙◌, arith}
 use Rattle.derivation.specs.Growth.{grown}
 use Rattle.derivation.specs.Trees.{trees}
 use Rattle.machine.specs.declared.tables.TypeFacts.{TypeFacts}
-use Rattle.machine.specs.Facts.{facts_of}
 use Rattle.machine.proofs.FactLaws.{left_known, right_known, some_right, few-both, within-right, facts-more}
 use Rattle.machine.proofs.tables.type_facts.Goals as goal
 
@@ -38,6 +36,3 @@ loop-entry-preserved c =
     ∙ ap (λ (f : TypeFacts). vec_items c.loop-entry.facts ++ (f ∷ [])) c.joined.ensures
     ∙ facts-more c.args.types.now c.requires c.loop-entry.entry-index c.loop-entry-test.true (vec_items c.loop-entry.facts) c.loop-entry.invariant
     c.index-left.result.now c.index-right.result.now c.index-left.ensures c.index-right.ensures
-
-pub returns : goal.returns
-returns c = c.loop-entry.invariant ∙ ap (λ l. map facts_of (trees l)) (take_all c.loop-entry.entry-index c.args.types.now c.loop-entry-test.false)

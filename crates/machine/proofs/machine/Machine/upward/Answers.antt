@@ -1,6 +1,0 @@
-use Rattle.std.proofs.Common.{vec_items}
-use Rattle.machine.proofs.MoveTables.{atom_small}
-use Rattle.machine.proofs.machine.Machine.upward.Goals as goal
-
-pub type_up-requires : goal.type_up-requires
-type_up-requires c = let m = c.args.self.now in atom_small (vec_items m.types) (vec_items m.rows) c.args.p c.requires m.accepted
