@@ -12,7 +12,7 @@ ghost use Rattle.basics.specs.declared.refusal.Layer.TheVariants.{Bytes};
 ghost use Rattle.basics.specs.declared.refusal.Refusal.TheVariants.{OutOfMemory};
 
 use crate::bytes::{Parsed, parse};
-use crate::check::{Checked, check_rows, unused_row};
+use crate::check::{Checked, check_rows};
 use crate::count::{gate_count, mate_count, place_count, wire_count};
 use crate::rows::{Row, Rule, Start};
 use crate::starts::wire_starts;
@@ -45,23 +45,16 @@ pub struct Holder {
 }
 
 // The counts of rows that passed their own checks, or what is wrong with all of them together.
-fn counted(
-    types: &[TypeEntry],
-    sizes: &[Size],
-    rows: &[Row],
-    envs: &[u128],
-    taken: u128,
-) -> Result<Counts, Refusal>
-    requires { Sound types.now sizes.now rows.now envs.now taken }
-    ensures { MatchResult result (λ n. (whole_fault types.now rows.now ≡ None) × (n.wires ≡ wires_of types.now rows.now) × (n.gates ≡ gate_rows rows.now) × (n.moves ≡ moves_of types.now rows.now)) (λ e. whole_fault types.now rows.now ≡ Some e) }
+fn counted(types: &[TypeEntry], sizes: &[Size], checked: &Checked) -> Result<Counts, Refusal>
+    requires { Sound types.now sizes.now checked.now.rows.items }
+    ensures { MatchResult result (λ n. (whole_fault types.now checked.now.rows.items ≡ None) × (n.wires ≡ wires_of types.now checked.now.rows.items) × (n.gates ≡ gate_rows checked.now.rows.items) × (n.moves ≡ moves_of types.now checked.now.rows.items)) (λ e. whole_fault types.now checked.now.rows.items ≡ Some e) }
 {
-    let last = rows.len() - 1;
-    if let Some(e) = unused_row(taken, last as u8) {
-        return Err(e);
-    }
-    let wires = wire_count(types, sizes, rows, envs[last]);
+    checked.all_used()?;
+    let rows = checked.rows.as_slice();
+    let last = RowId(rows.len() as u8 - 1);
+    let wires = wire_count(types, sizes, rows, checked.env_at(last));
     if wires > 32 {
-        return Err(Refusal::TooManyWires(RowId(last as u8)));
+        return Err(Refusal::TooManyWires(last));
     }
     let places = place_count(types, sizes, rows);
     Ok(Counts {
@@ -84,14 +77,8 @@ fn accept(heap: Global, parsed: Parsed) -> Result<Holder, Refusal>
     let table = types.as_slice();
     let sizes = type_sizes(heap, table)?;
     let checked = check_rows(heap, table, records.as_slice())?;
-    let Checked { rows, envs, taken } = checked;
-    let counts = counted(
-        table,
-        sizes.as_slice(),
-        rows.as_slice(),
-        envs.as_slice(),
-        taken,
-    )?;
+    let counts = counted(table, sizes.as_slice(), &checked)?;
+    let Checked { rows, envs, .. } = checked;
     Ok(Holder {
         types,
         rows,

@@ -1,27 +1,18 @@
--- The last row exists, and what passed so far is what the counts need.
-use Rattle.std.proofs.Common.{◌-◌, ◌≤◌, length, sym, ap, ◌∙◌, subst, arith}
-use Rattle.derivation.specs.Rows.{lowest_missing}
-use Rattle.derivation.proofs.HolderLaws.{sound-known, sound-small, sound-env, sound_accepted, whole_none}
-use Rattle.derivation.proofs.RowChecks.{length-environments}
+-- What passed so far is what the counts need.
+use Rattle.std.proofs.Common.{◌≤◌, sym, refl, subst, ap, ◌∙◌}
+use Rattle.derivation.specs.Rows.{unused_fault}
+use Rattle.derivation.proofs.HolderLaws.{sound-same, sound-known, sound-small, sound_accepted, whole_none}
 use Rattle.derivation.proofs.holder.counted.Goals as goal
 
-pub bounds-envs-last : goal.bounds-envs-last
-bounds-envs-last c = omega (arith, ap length c.requires.surrounded, length-environments c.args.rows.now)
+pub wire_count-wires-requires-clause-known : goal.wire_count-wires-requires-clause-known
+wire_count-wires-requires-clause-known c = sound-known (sound-same c.requires refl c.as_slice-rows.ensures.value)
 
-pub wire_count-wires-requires : goal.wire_count-wires-requires
-wire_count-wires-requires c = record {
-  sized = c.requires.sized;
-  known = sound-known c.requires;
-  small = sound-small c.requires;
-  some = c.requires.some_rows;
-  few = c.requires.few_rows;
-  env_last = sound-env c.requires;
-}
+pub wire_count-wires-requires-clause-small : goal.wire_count-wires-requires-clause-small
+wire_count-wires-requires-clause-small c = sound-small c.requires
 
-pub place_count-places-requires : goal.place_count-places-requires
-place_count-places-requires c = record {
-  sized = c.requires.sized;
-  accepted = sound_accepted c.requires (whole_none c.args.types.now c.args.rows.now
-      (ap (λ m. lowest_missing m 0 (length c.args.rows.now - 1)) (sym c.requires.used) ∙ sym c.in_default.ensures)
-      (subst (λ n. n ≤ 32) c.wire_count-wires.ensures c.if-wires-gt32.false));
-}
+pub place_count-places-requires-clause-accepted : goal.place_count-places-requires-clause-accepted
+place_count-places-requires-clause-accepted c =
+    sound_accepted (sound-same c.requires refl c.as_slice-rows.ensures.value)
+    (whole_none c.args.types.now c.as_slice-rows.result.now
+    (ap unused_fault c.as_slice-rows.ensures.value ∙ sym c.in_ok-all_used.ensures)
+    (subst (λ n. n ≤ 32) c.wire_count-wires.ensures c.if-wires-gt32.false))
