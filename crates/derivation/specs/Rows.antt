@@ -1,5 +1,5 @@
 -- What the rows of a derivation stand on, and the checks of each row.
-use Rattle.std.specs.Prelude.{ℕ, zero, suc, ◌-◌, Bool, true, false, cond, not, ◌&&◌, List, [], ◌∷◌, map, length, get_or, Some, None, Option, ◌==◌, nat_lt, if◌then◌else◌, slice_index, slice_index_or}
+use Rattle.std.specs.Prelude.{ℕ, zero, suc, ◌-◌, Bool, true, false, cond, not, ◌&&◌, List, [], ◌∷◌, map, length, get_or, Some, None, Ok, Err, Option, Result, ◌==◌, nat_lt, if◌then◌else◌, slice_index, slice_index_or}
 use Rattle.std.specs.List.{fold, list_all, slice_get}
 use Rattle.basics.specs.declared.numbers.RowId.{RowId}
 use Rattle.derivation.specs.declared.types.TypeKind.{TypeKind}
@@ -9,6 +9,7 @@ use Rattle.derivation.specs.declared.rows.Rule.{Rule}
 use Rattle.derivation.specs.declared.rows.Rule.TheVariants.{Variable, Zero, One, Gate, Lambda, PairLambda, Apply, Pair}
 use Rattle.derivation.specs.declared.rows.Row.{Row}
 use Rattle.derivation.specs.declared.rows.Record.{Record}
+use Rattle.derivation.specs.declared.check.Step.{Step}
 use Rattle.basics.specs.declared.refusal.Refusal.{Refusal}
 use Rattle.basics.specs.declared.refusal.Refusal.TheVariants.{NoSuchType, PremiseNotLower, PremiseTaken, NotFree, TypeMismatch, NoSuchGate, UnusedRow}
 use Rattle.derivation.specs.Sets.{has, only, union, without}
@@ -160,17 +161,18 @@ fits es rows t (PairLambda p x y) = is_node es Arrow t (left_part es t) (type_at
 fits es rows t (Apply f a) = is_node es Arrow (type_at rows f.0) (type_at rows a.0) t
 fits es rows t (Pair l r) = is_node es PairKind t (type_at rows l.0) (type_at rows r.0)
 
--- what is wrong with premises and with what is bound of the variables m and those of the premises, behind the rows of done
-abbrev pub standing_fault : List Row → ℕ → List ℕ → List ℕ → Option Refusal
-standing_fault done m ps xs =
+-- what a row adds to the rows of done, if it introduces the variables of m, stands on ps and binds xs, or what is wrong with it
+abbrev pub step : List Row → ℕ → List ℕ → List ℕ → Result Step Refusal
+step done m ps xs =
     let k = length done in
-    cond (not (all_below k ps)) (Some (PremiseNotLower (record { 0 = k })))
-    (cond (not (none_in (taken done) ps)) (Some (PremiseTaken (record { 0 = k })))
-    (cond (not (all_in (gathered m (environments done) ps) xs)) (Some (NotFree (record { 0 = k }))) None))
+    cond (not (all_below k ps)) (Err (PremiseNotLower (record { 0 = k })))
+    (cond (not (none_in (taken done) ps)) (Err (PremiseTaken (record { 0 = k })))
+    (cond (not (all_in (gathered m (environments done) ps) xs)) (Err (NotFree (record { 0 = k })))
+    (Ok (record { taken = including (taken done) ps; env = less (gathered m (environments done) ps) xs }))))
 
--- the same of a rule
-abbrev pub rule_stands : List Row → Rule → Option Refusal
-rule_stands done rule = standing_fault done (introduced (length done) rule) (premises rule) (binders rule)
+-- the same of a row of this rule
+abbrev pub rule_step : List Row → Rule → Result Step Refusal
+rule_step done rule = step done (introduced (length done) rule) (premises rule) (binders rule)
 
 -- what is wrong with a rule at type t, behind the rows of done
 abbrev pub rule_fault : List TypeEntry → List Row → ℕ → Rule → Option Refusal

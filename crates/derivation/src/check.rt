@@ -1,12 +1,12 @@
 // The checks of rows, each by the rows before it.
-ghost use Rattle.std.specs.Prelude.{◌≡◌, ◌-◌, ◌<◌, ◌≤◌, true, not, ◌&&◌, [], ◌∷◌, ◌++◌, map, length, Some, None, MatchResult, nat_lt, slice_index};
+ghost use Rattle.std.specs.Prelude.{◌≡◌, ◌-◌, ◌<◌, ◌≤◌, true, not, ◌&&◌, [], ◌∷◌, ◌++◌, map, length, nat_lt, slice_index};
 ghost use Rattle.std.specs.List.{find, list_all, range_with_len};
 ghost use Rattle.std.specs.Result.{result_err};
 ghost use Rattle.derivation.specs.Sets.{has as member};
 ghost use Rattle.derivation.specs.declared.types.TypeKind.TheVariants.{Arrow, Pair};
 ghost use Rattle.derivation.specs.Accepted.{rows_fault};
 ghost use Rattle.derivation.specs.Faults.{Checked as Passes};
-ghost use Rattle.derivation.specs.Rows.{all_below, environment as environment_of, environments, fits as fits_rule, found, gathered, including, introduced, is_node, is_power, left_part, less, numbers, premises, releasing as releasing_of, row_fault, row_of, standing_fault, rule_stands, taken as taken_by, taking as taking_of, type_at, unused_fault};
+ghost use Rattle.derivation.specs.Rows.{all_below, environments, fits as fits_rule, found, gathered, is_node, is_power, left_part, numbers, releasing as releasing_of, row_fault, row_of, rule_step, step as step_of, taken as taken_by, taking as taking_of, type_at, unused_fault};
 
 use crate::rows::{Record, Row, Rule};
 use crate::sets::{has, only, union, without};
@@ -53,7 +53,7 @@ fn is_gate(types: &[TypeEntry], n: u8, t: TypeId) -> bool
     entry.kind == TypeKind::Arrow && entry.right == entry.left && is_power(types, n, entry.left)
 }
 
-// Whether entry t is an arrow from the pair of left and right.
+// Whether entry t is an arrow from the pair of left and right to a third type.
 fn is_pair_arrow(types: &[TypeEntry], t: TypeId, left: TypeId, right: TypeId, to: TypeId) -> bool
     ensures { result ≡ (is_node types.now Arrow t.0 (left_part types.now t.0) to.0 && is_node types.now Pair (left_part types.now t.0) left.0 right.0) }
 {
@@ -162,7 +162,7 @@ impl Checked {
 
     // What a row of these premises adds, if it introduces the variables of own and binds those that are bound.
     fn step(&self, own: u128, premises: &[RowId], bound: &[RowId]) -> Result<Step, Refusal>
-        ensures { MatchResult result (λ s. (standing_fault self.now.rows.items own (numbers premises.now) (numbers bound.now) ≡ None) × (s.taken ≡ including (taken_by self.now.rows.items) (numbers premises.now)) × (s.env ≡ less (gathered own (environments self.now.rows.items) (numbers premises.now)) (numbers bound.now))) (λ e. standing_fault self.now.rows.items own (numbers premises.now) (numbers bound.now) ≡ Some e) }
+        ensures { result ≡ step_of self.now.rows.items own (numbers premises.now) (numbers bound.now) }
     {
         let k = self.next();
         if !all_lower(premises, k) {
@@ -176,7 +176,7 @@ impl Checked {
     // What a row of this rule adds.
     fn rule_step(&self, rule: Rule) -> Result<Step, Refusal>
         requires { length self.now.rows.items < 128 }
-        ensures { MatchResult result (λ s. (rule_stands self.now.rows.items rule ≡ None) × (s.taken ≡ including (taken_by self.now.rows.items) (premises rule)) × ((row : Row) → row.rule ≡ rule → s.env ≡ environment_of (environments self.now.rows.items) row)) (λ e. rule_stands self.now.rows.items rule ≡ Some e) }
+        ensures { result ≡ rule_step self.now.rows.items rule }
     {
         match rule {
             Rule::Variable => self.step(only(self.next().0), &[], &[]),

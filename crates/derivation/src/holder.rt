@@ -31,6 +31,7 @@ pub(crate) struct Counts {
 }
 
 // A derivation that passed all checks, with each row's environment and the numbers of wires, gate rows and moves.
+// Rows and environments are two vectors, since the public calls lend each as a slice.
 #[derive(Drop)]
 pub struct Holder {
     types: Vec<TypeEntry>,
@@ -96,14 +97,10 @@ fn decoded(heap: Global, bytes: &[u8]) -> Result<Holder, Refusal>
 }
 
 // A qubit in state zero.
-fn zero_row() -> Row
-    ensures { result ≡ zero_row }
-{
-    Row {
-        ty: TypeId(0),
-        rule: Rule::Zero,
-    }
-}
+const ZERO_ROW: Row = Row {
+    ty: TypeId(0),
+    rule: Rule::Zero,
+};
 
 impl Holder {
     // A holder of one zero row.
@@ -111,7 +108,7 @@ impl Holder {
         ensures { MatchResult result (λ h. (h.types.items ≡ []) × (h.rows.items ≡ zero_row ∷ [])) (λ e. e ≡ OutOfMemory Bytes) }
     {
         let mut rows = Vec::new(heap);
-        rows.push(zero_row())?;
+        rows.push(ZERO_ROW)?;
         let mut envs = Vec::new(heap);
         envs.push(0)?;
         Ok(Holder {

@@ -1,5 +1,5 @@
 -- Each check in turn: the first that fails is the fault.
-use Rattle.std.proofs.Common.{Some, sym, ap, ◌∙◌}
+use Rattle.std.proofs.Common.{Err, sym, ap, ◌∙◌}
 use Rattle.std.proofs.lemmas.Result.{err_from_is_err_and}
 use Rattle.basics.specs.declared.refusal.Refusal.TheVariants.{PremiseTaken, NotFree}
 use Rattle.derivation.specs.Rows.{numbers, releasing, taking}
@@ -20,7 +20,7 @@ returns-in_err-taken c =
     let none = ap (λ m. taking m (numbers c.args.premises.now)) (sym c.args.self.now.used) ∙ sym c.taking.ensures ∙ c.in_err-taken.ensures.ok_part in
     let fault = not_free c.args.self.now.rows.items c.next-k.result c.next-k.ensures c.args.own c.args.premises.now c.args.bound.now (sym c.if-not-all_lower.ensures) none in
     let e = err_if_none c.taking.result (PremiseTaken c.next-k.result) c.in_err-taken.field-0.0 c.in_err-taken.ensures.ok_part c.in_err-taken.ensures.value in
-    rw (p.1, p.2) (fault ∙ ap Some (sym e))
+    rw (p.1, p.2) (ap Err e ∙ fault)
 
 pub returns-in_err-env : goal.returns-in_err-env
 returns-in_err-env c =
@@ -29,7 +29,7 @@ returns-in_err-env c =
     let none = ap (λ m. releasing m (numbers c.args.bound.now)) (sym c.gathered.ensures) ∙ sym c.releasing.ensures ∙ c.in_err-env.ensures.ok_part in
     let fault = not_held c.args.self.now.rows.items c.next-k.result c.next-k.ensures c.args.own c.args.premises.now c.args.bound.now (sym c.if-not-all_lower.ensures) c.in_ok-taken.taken some none in
     let e = err_if_none c.releasing.result (NotFree c.next-k.result) c.in_err-env.field-0.0 c.in_err-env.ensures.ok_part c.in_err-env.ensures.value in
-    rw (p.1, p.2) (fault ∙ ap Some (sym e))
+    rw (p.1, p.2) (ap Err e ∙ fault)
 
 pub returns : goal.returns
 returns c =
