@@ -92,8 +92,7 @@ fn accept(heap: Global, parsed: Parsed) -> Result<Holder, Refusal>
 fn decoded(heap: Global, bytes: &[u8]) -> Result<Holder, Refusal>
     ensures { Gives (derivation_of bytes.now) result (λ h. record { types = h.types.items; rows = h.rows.items }) }
 {
-    let parsed = parse(heap, bytes)?;
-    accept(heap, parsed)
+    accept(heap, parse(heap, bytes)?)
 }
 
 // A qubit in state zero.
@@ -129,8 +128,7 @@ impl Holder {
         ensures exact { ReadExact bytes.now result self.new.types.items self.new.rows.items }
         ensures kept { OnErr result (self.new ≡ self.old) }
     {
-        let holder = decoded(heap, bytes)?;
-        *self = holder;
+        *self = decoded(heap, bytes)?;
         Ok(())
     }
 
