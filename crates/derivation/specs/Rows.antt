@@ -139,7 +139,7 @@ left_part es t = (entry_at es t).left.0
 abbrev pub right_part : List TypeEntry → ℕ → ℕ
 right_part es t = (entry_at es t).right.0
 
--- entry t, which the qubit and a number past the table's end have none of
+-- entry t, if the table has it; the qubit is no entry
 abbrev pub found : List TypeEntry → ℕ → Option TypeEntry
 found es zero = None
 found es (suc t) = slice_get es t

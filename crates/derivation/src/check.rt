@@ -15,7 +15,7 @@ use basics::numbers::{RowId, TypeId};
 use basics::refusal::Refusal;
 use std::alloc::Global;
 
-// Entry t of the table; entry 0, the qubit, is in none.
+// Entry t, if the table has it; the qubit is no entry.
 fn entry_at(types: &[TypeEntry], t: TypeId) -> Option<TypeEntry>
     ensures { result ≡ found types.now t.0 }
 {
@@ -53,7 +53,7 @@ fn is_gate(types: &[TypeEntry], n: u8, t: TypeId) -> bool
     entry.kind == TypeKind::Arrow && entry.right == entry.left && is_power(types, n, entry.left)
 }
 
-// Whether entry t is an arrow from the pair of left and right to a third type.
+// Whether entry t is an arrow from the pair of left and right to the type `to`.
 fn is_pair_arrow(types: &[TypeEntry], t: TypeId, left: TypeId, right: TypeId, to: TypeId) -> bool
     ensures { result ≡ (is_node types.now Arrow t.0 (left_part types.now t.0) to.0 && is_node types.now Pair (left_part types.now t.0) left.0 right.0) }
 {
@@ -73,6 +73,7 @@ fn all_lower(premises: &[RowId], k: RowId) -> bool
 }
 
 // The taken rows with the premises, if none of these is taken and no two are the same.
+// A loop here and in releasing: as try_fold, the chain's result and what its closure needs stayed open in the proof.
 fn taking(taken: u128, premises: &[RowId]) -> Option<u128>
     requires { all_below 128 (numbers premises.now) ≡ true }
     ensures { result ≡ taking_of taken (numbers premises.now) }
@@ -108,6 +109,7 @@ struct Step {
 }
 
 // Rows that passed their checks, with their environments and the rows that are premises.
+// Rows and environments are two vectors, since the holder lends each as a slice.
 #[derive(Drop)]
 pub(crate) struct Checked {
     pub(crate) rows: Vec<Row>,
