@@ -9,7 +9,7 @@ use Rattle.basics.specs.declared.refusal.Refusal.{Refusal}
 use Rattle.basics.specs.declared.refusal.Refusal.TheVariants.{TooManyWires}
 use Rattle.derivation.specs.Faults.{or_else, first_fault}
 use Rattle.derivation.specs.Trees.{atoms, tree, trees, types_fault}
-use Rattle.derivation.specs.Rows.{premises, type_at, row_fault, row_of, record_of, unused_fault, environments, taken}
+use Rattle.derivation.specs.Rows.{premises, type_at, row_fault, row_of, record_of, unused_fault}
 use Rattle.derivation.specs.Weights.{size_of}
 use Rattle.derivation.specs.Judgements.{rule_at, Follows}
 use Rattle.derivation.specs.Places.{wires}
@@ -67,12 +67,10 @@ pub record Accepted (es : List TypeEntry) (rows : List Row) : Type 0 where
   pub wired : wires es rows ≤ 32
 
 -- what reading knows of a derivation once its types and each of its rows have passed
-pub record Sound (es : List TypeEntry) (sizes : List Size) (rows : List Row) (envs : List ℕ) (premised : ℕ) : Type 0 where
+pub record Sound (es : List TypeEntry) (sizes : List Size) (rows : List Row) : Type 0 where
   pub few_types : length es ≤ 64
   pub some_rows : 0 < length rows
   pub few_rows : length rows ≤ 128
   pub types_pass : types_fault es ≡ None
   pub rows_pass : rows_fault es (map record_of rows) ≡ None
   pub sized : sizes ≡ map size_of (trees es)
-  pub surrounded : envs ≡ environments rows
-  pub used : premised ≡ taken rows

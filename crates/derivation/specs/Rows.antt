@@ -1,5 +1,7 @@
 -- What the rows of a derivation stand on, and the checks of each row.
-use Rattle.std.specs.Prelude.{◌≡◌, ℕ, zero, suc, ◌-◌, Bool, true, false, cond, not, ◌&&◌, List, [], ◌∷◌, length, get_or, Some, None, Option, ◌==◌, nat_lt, slice_index, slice_index_or}
+use Rattle.std.specs.Prelude.{ℕ, zero, suc, ◌-◌, Bool, true, false, cond, not, ◌&&◌, List, [], ◌∷◌, map, length, get_or, Some, None, Ok, Err, Option, Result, ◌==◌, nat_lt, if◌then◌else◌, slice_index, slice_index_or}
+use Rattle.std.specs.List.{fold, list_all, slice_get}
+use Rattle.basics.specs.declared.numbers.RowId.{RowId}
 use Rattle.derivation.specs.declared.types.TypeKind.{TypeKind}
 use Rattle.derivation.specs.declared.types.TypeKind.TheVariants.{Arrow, Pair as PairKind}
 use Rattle.derivation.specs.declared.types.TypeEntry.{TypeEntry}
@@ -7,12 +9,17 @@ use Rattle.derivation.specs.declared.rows.Rule.{Rule}
 use Rattle.derivation.specs.declared.rows.Rule.TheVariants.{Variable, Zero, One, Gate, Lambda, PairLambda, Apply, Pair}
 use Rattle.derivation.specs.declared.rows.Row.{Row}
 use Rattle.derivation.specs.declared.rows.Record.{Record}
+use Rattle.derivation.specs.declared.check.Step.{Step}
 use Rattle.basics.specs.declared.refusal.Refusal.{Refusal}
 use Rattle.basics.specs.declared.refusal.Refusal.TheVariants.{NoSuchType, PremiseNotLower, PremiseTaken, NotFree, TypeMismatch, NoSuchGate, UnusedRow}
 use Rattle.derivation.specs.Sets.{has, only, union, without}
 use Rattle.derivation.specs.Growth.{grown}
 use Rattle.basics.specs.Gates.{arity}
 use Rattle.derivation.specs.Trees.{same_entry, no_entry}
+
+-- the numbers of rows
+abbrev pub numbers : List RowId → List ℕ
+numbers rs = map (λ (r : RowId). r.0) rs
 
 -- the rows that a rule stands on
 abbrev pub premises : Rule → List ℕ
@@ -49,13 +56,11 @@ introduced k (Pair l r) = 0
 
 -- m with the environments of some rows
 abbrev pub gathered : ℕ → List ℕ → List ℕ → ℕ
-gathered m envs [] = m
-gathered m envs (p ∷ ps) = gathered (union m (slice_index envs p)) envs ps
+gathered m envs ps = fold (λ n p. union n (slice_index envs p)) m ps
 
 -- m less some variables
 abbrev pub less : ℕ → List ℕ → ℕ
-less m [] = m
-less m (x ∷ xs) = less (without m x) xs
+less m xs = fold without m xs
 
 -- the environment of a row, by those of the rows before it:
 -- its own variable, if it introduces one, and what its premises have, less what it binds
@@ -68,13 +73,11 @@ environments rows = grown environment [] rows
 
 -- m with some numbers
 abbrev pub including : ℕ → List ℕ → ℕ
-including m [] = m
-including m (p ∷ ps) = including (union m (only p)) ps
+including m ps = fold (λ n p. union n (only p)) m ps
 
 -- m with the premises of the rows
 abbrev pub taken_from : ℕ → List Row → ℕ
-taken_from m [] = m
-taken_from m (row ∷ rows) = taken_from (including m (premises row.rule)) rows
+taken_from m rows = fold (λ n row. including n (premises row.rule)) m rows
 
 -- the rows that are a premise of some row
 unfoldable pub taken : List Row → ℕ
@@ -82,8 +85,7 @@ taken rows = taken_from 0 rows
 
 -- each number is below k
 abbrev pub all_below : ℕ → List ℕ → Bool
-all_below k [] = true
-all_below k (p ∷ ps) = nat_lt p k && all_below k ps
+all_below k ps = list_all (λ p. nat_lt p k) ps
 
 -- the numbers are not in m, and no two are equal
 abbrev pub none_in : ℕ → List ℕ → Bool
@@ -94,6 +96,14 @@ none_in m (p ∷ ps) = not (has m p) && none_in (union m (only p)) ps
 abbrev pub all_in : ℕ → List ℕ → Bool
 all_in m [] = true
 all_in m (x ∷ xs) = has m x && all_in (without m x) xs
+
+-- m with some numbers, if they are not in it and no two are equal
+abbrev pub taking : ℕ → List ℕ → Option ℕ
+taking m ps = if none_in m ps then Some (including m ps) else None
+
+-- m less some variables, if they are in it and no two are equal
+abbrev pub releasing : ℕ → List ℕ → Option ℕ
+releasing m xs = if all_in m xs then Some (less m xs) else None
 
 -- what the rule binds is in the environment of its premise
 abbrev pub binds_free : List ℕ → Rule → Bool
@@ -129,6 +139,11 @@ left_part es t = (entry_at es t).left.0
 abbrev pub right_part : List TypeEntry → ℕ → ℕ
 right_part es t = (entry_at es t).right.0
 
+-- entry t, if the table has it; the qubit is no entry
+abbrev pub found : List TypeEntry → ℕ → Option TypeEntry
+found es zero = None
+found es (suc t) = slice_get es t
+
 -- entry t is n qubits
 abbrev pub is_power : List TypeEntry → ℕ → ℕ → Bool
 is_power es zero t = false
@@ -145,6 +160,19 @@ fits es rows t (Lambda p x) = is_node es Arrow t (type_at rows x.0) (type_at row
 fits es rows t (PairLambda p x y) = is_node es Arrow t (left_part es t) (type_at rows p.0) && is_node es PairKind (left_part es t) (type_at rows x.0) (type_at rows y.0)
 fits es rows t (Apply f a) = is_node es Arrow (type_at rows f.0) (type_at rows a.0) t
 fits es rows t (Pair l r) = is_node es PairKind t (type_at rows l.0) (type_at rows r.0)
+
+-- what a row adds to the rows of done, if it introduces the variables of m, stands on ps and binds xs, or what is wrong with it
+abbrev pub step : List Row → ℕ → List ℕ → List ℕ → Result Step Refusal
+step done m ps xs =
+    let k = length done in
+    cond (not (all_below k ps)) (Err (PremiseNotLower (record { 0 = k })))
+    (cond (not (none_in (taken done) ps)) (Err (PremiseTaken (record { 0 = k })))
+    (cond (not (all_in (gathered m (environments done) ps) xs)) (Err (NotFree (record { 0 = k })))
+    (Ok (record { taken = including (taken done) ps; env = less (gathered m (environments done) ps) xs }))))
+
+-- the same of a row of this rule
+abbrev pub rule_step : List Row → Rule → Result Step Refusal
+rule_step done rule = step done (introduced (length done) rule) (premises rule) (binders rule)
 
 -- what is wrong with a rule at type t, behind the rows of done
 abbrev pub rule_fault : List TypeEntry → List Row → ℕ → Rule → Option Refusal
@@ -182,9 +210,3 @@ lowest_missing m q (suc n) = cond (has m q) (lowest_missing m (suc q) n) (Some (
 -- the lowest row but the last that is no premise
 abbrev pub unused_fault : List Row → Option Refusal
 unused_fault rows = lowest_missing (taken rows) 0 (length rows - 1)
-
--- rows so far, with their environments and the rows that are premises, all as of done
-pub record Knows (rows : List Row) (envs : List ℕ) (premised : ℕ) (done : List Row) : Type 0 where
-  pub same : rows ≡ done
-  pub surrounded : envs ≡ environments done
-  pub used : premised ≡ taken done

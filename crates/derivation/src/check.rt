@@ -1,8 +1,12 @@
 // The checks of rows, each by the rows before it.
-ghost use Rattle.std.specs.Prelude.{◌≡◌, ◌<◌, ◌≤◌, true, [], ◌∷◌, map, length, Some, None, MatchResult, slice_index};
+ghost use Rattle.std.specs.Prelude.{◌≡◌, ◌-◌, ◌<◌, ◌≤◌, true, not, ◌&&◌, [], ◌∷◌, ◌++◌, map, length, nat_lt, slice_index};
+ghost use Rattle.std.specs.List.{find, list_all, range_with_len};
+ghost use Rattle.std.specs.Result.{result_err};
+ghost use Rattle.derivation.specs.Sets.{has as member};
+ghost use Rattle.derivation.specs.declared.types.TypeKind.TheVariants.{Arrow, Pair};
 ghost use Rattle.derivation.specs.Accepted.{rows_fault};
 ghost use Rattle.derivation.specs.Faults.{Checked as Passes};
-ghost use Rattle.derivation.specs.Rows.{all_below, binds_free, entry_at, environment as environment_of, environments, fits as fits_rule, including, is_node, is_power, Knows, lowest_missing, none_in, premises, row_fault, row_of, rule_fault, taken as taken_by, type_at};
+ghost use Rattle.derivation.specs.Rows.{all_below, environments, fits as fits_rule, found, gathered, is_node, is_power, left_part, numbers, releasing as releasing_of, row_fault, row_of, rule_step, step as step_of, taken as taken_by, taking as taking_of, type_at, unused_fault};
 
 use crate::rows::{Record, Row, Rule};
 use crate::sets::{has, only, union, without};
@@ -11,32 +15,19 @@ use basics::numbers::{RowId, TypeId};
 use basics::refusal::Refusal;
 use std::alloc::Global;
 
+// Entry t, if the table has it; the qubit is no entry.
+fn entry_at(types: &[TypeEntry], t: TypeId) -> Option<TypeEntry>
+    ensures { result ≡ found types.now t.0 }
+{
+    let i = (t.0 as usize).checked_sub(1)?;
+    types.get(i).copied()
+}
+
 // Whether entry t of the table is of this kind, with these parts.
 fn is_node(types: &[TypeEntry], kind: TypeKind, t: TypeId, left: TypeId, right: TypeId) -> bool
     ensures { result ≡ is_node types.now kind t.0 left.0 right.0 }
 {
-    if t.0 == 0 || t.0 as usize > types.len() {
-        return false;
-    }
-    types[t.0 as usize - 1] == TypeEntry { kind, left, right }
-}
-
-// An entry of no table.
-const NO_ENTRY: TypeEntry = TypeEntry {
-    kind: TypeKind::Arrow,
-    left: TypeId(0),
-    right: TypeId(0),
-};
-
-// Entry t, or one that nothing reads where the table has none.
-fn entry_at(types: &[TypeEntry], t: TypeId) -> TypeEntry
-    ensures { result ≡ entry_at types.now t.0 }
-{
-    if t.0 == 0 {
-        return NO_ENTRY;
-    }
-    let i = t.0 as usize - 1;
-    if i < types.len() { types[i] } else { NO_ENTRY }
+    entry_at(types, t) == Some(TypeEntry { kind, left, right })
 }
 
 // Whether entry t is n qubits.
@@ -46,238 +37,250 @@ fn is_power(types: &[TypeEntry], n: u8, t: TypeId) -> bool
     if n <= 1 {
         return n == 1 && t.0 == 0;
     }
-    let rest = entry_at(types, t).right;
-    is_node(types, TypeKind::Pair, t, TypeId(0), rest) && is_power(types, n - 1, rest)
-}
-
-// The type of row r, or the qubit where there is no such row.
-fn type_at(rows: &[Row], r: RowId) -> TypeId
-    ensures { result.0 ≡ type_at rows.now r.0 }
-{
-    if (r.0 as usize) < rows.len() {
-        rows[r.0 as usize].ty
-    } else {
-        TypeId(0)
-    }
-}
-
-// The environment of row r, or none where there is no such row.
-fn env_at(envs: &[u128], r: RowId) -> u128
-    ensures { result ≡ slice_index envs.now r.0 }
-{
-    if (r.0 as usize) < envs.len() {
-        envs[r.0 as usize]
-    } else {
-        0
-    }
-}
-
-// Whether each premise of the rule is below k.
-fn premises_lower(rule: Rule, k: u8) -> bool
-    ensures { result ≡ all_below k (premises rule) }
-{
-    match rule {
-        Rule::Variable | Rule::Zero | Rule::One | Rule::Gate(_) => true,
-        Rule::Lambda { premise, .. } | Rule::PairLambda { premise, .. } => premise.0 < k,
-        Rule::Apply {
-            function: p,
-            argument: q,
-        }
-        | Rule::Pair { left: p, right: q } => p.0 < k && q.0 < k,
-    }
-}
-
-// Whether two premises are not taken, and not the same.
-fn both_free(taken: u128, p: RowId, q: RowId) -> bool
-    ensures { result ≡ none_in taken (p.0 ∷ q.0 ∷ []) }
-{
-    if has(taken, p.0) || has(taken, q.0) {
+    let Some(entry) = entry_at(types, t) else {
         return false;
-    }
-    p.0 != q.0
-}
-
-// Whether the premises of the rule are not taken, and not the same.
-fn premises_free(rule: Rule, taken: u128) -> bool
-    ensures { result ≡ none_in taken (premises rule) }
-{
-    match rule {
-        Rule::Variable | Rule::Zero | Rule::One | Rule::Gate(_) => true,
-        Rule::Lambda { premise, .. } | Rule::PairLambda { premise, .. } => !has(taken, premise.0),
-        Rule::Apply {
-            function: p,
-            argument: q,
-        }
-        | Rule::Pair { left: p, right: q } => both_free(taken, p, q),
-    }
-}
-
-// The taken rows, with the premises of the rule.
-fn with_premises(taken: u128, rule: Rule) -> u128
-    requires { all_below 128 (premises rule) ≡ true }
-    ensures { result ≡ including taken (premises rule) }
-{
-    match rule {
-        Rule::Variable | Rule::Zero | Rule::One | Rule::Gate(_) => taken,
-        Rule::Lambda { premise, .. } | Rule::PairLambda { premise, .. } => union(
-            taken,
-            only(premise.0),
-        ),
-        Rule::Apply {
-            function: p,
-            argument: q,
-        }
-        | Rule::Pair { left: p, right: q } => { union(union(taken, only(p.0)), only(q.0)) }
-    }
-}
-
-// Whether the variables that the rule binds are in the environment of its premise, and not the same.
-fn binders_free(envs: &[u128], rule: Rule) -> bool
-    ensures { result ≡ binds_free envs.now rule }
-{
-    match rule {
-        Rule::Variable | Rule::Zero | Rule::One | Rule::Gate(_) => true,
-        Rule::Apply { .. } | Rule::Pair { .. } => true,
-        Rule::Lambda { premise, x } => has(env_at(envs, premise), x.0),
-        Rule::PairLambda { premise, x, y } => {
-            let env = env_at(envs, premise);
-            has(env, x.0) && has(without(env, x.0), y.0)
-        }
-    }
-}
-
-// Whether type t is what the rule gives.
-fn fits(types: &[TypeEntry], rows: &[Row], t: TypeId, rule: Rule) -> bool
-    ensures { result ≡ fits_rule types.now rows.now t.0 rule }
-{
-    match rule {
-        Rule::Variable => true,
-        Rule::Zero | Rule::One => t.0 == 0,
-        Rule::Gate(gate) => {
-            let side = entry_at(types, t).left;
-            is_node(types, TypeKind::Arrow, t, side, side) && is_power(types, gate.arity(), side)
-        }
-        Rule::Lambda { premise, x } => {
-            is_node(
-                types,
-                TypeKind::Arrow,
-                t,
-                type_at(rows, x),
-                type_at(rows, premise),
-            )
-        }
-        Rule::PairLambda { premise, x, y } => {
-            let both = entry_at(types, t).left;
-            is_node(types, TypeKind::Arrow, t, both, type_at(rows, premise))
-                && is_node(
-                    types,
-                    TypeKind::Pair,
-                    both,
-                    type_at(rows, x),
-                    type_at(rows, y),
-                )
-        }
-        Rule::Apply { function, argument } => {
-            is_node(
-                types,
-                TypeKind::Arrow,
-                type_at(rows, function),
-                type_at(rows, argument),
-                t,
-            )
-        }
-        Rule::Pair { left, right } => {
-            is_node(
-                types,
-                TypeKind::Pair,
-                t,
-                type_at(rows, left),
-                type_at(rows, right),
-            )
-        }
-    }
-}
-
-// What is wrong with a rule at type t, behind the rows so far; envs are their environments, and taken their premises.
-fn rule_fault(
-    types: &[TypeEntry],
-    rows: &[Row],
-    envs: &[u128],
-    taken: u128,
-    t: TypeId,
-    rule: Rule,
-) -> Option<Refusal>
-    requires few { length rows.now < 128 }
-    requires envs { envs.now ≡ environments rows.now }
-    requires taken { taken ≡ taken_by rows.now }
-    ensures { result ≡ rule_fault types.now rows.now t.0 rule }
-{
-    let k = rows.len() as u8;
-    if !premises_lower(rule, k) {
-        return Some(Refusal::PremiseNotLower(RowId(k)));
-    }
-    if !premises_free(rule, taken) {
-        return Some(Refusal::PremiseTaken(RowId(k)));
-    }
-    if !binders_free(envs, rule) {
-        return Some(Refusal::NotFree(RowId(k)));
-    }
-    if !fits(types, rows, t, rule) {
-        return Some(Refusal::TypeMismatch(RowId(k)));
-    }
-    None
-}
-
-// The row of a record, behind the rows so far, or what is wrong with it.
-fn checked_row(
-    types: &[TypeEntry],
-    rows: &[Row],
-    envs: &[u128],
-    taken: u128,
-    read: Record,
-) -> Result<Row, Refusal>
-    requires few { length rows.now < 128 }
-    requires envs { envs.now ≡ environments rows.now }
-    requires taken { taken ≡ taken_by rows.now }
-    ensures { MatchResult result (λ row. (row_fault types.now rows.now read ≡ None) × (row ≡ row_of read)) (λ e. row_fault types.now rows.now read ≡ Some e) }
-{
-    let k = rows.len() as u8;
-    if read.ty.0 as usize > types.len() {
-        return Err(Refusal::NoSuchType(RowId(k)));
-    }
-    let Some(rule) = read.rule else {
-        return Err(Refusal::NoSuchGate(RowId(k)));
     };
-    match rule_fault(types, rows, envs, taken, read.ty, rule) {
-        Some(e) => Err(e),
-        None => Ok(Row { ty: read.ty, rule }),
-    }
+    entry.kind == TypeKind::Pair && entry.left.0 == 0 && is_power(types, n - 1, entry.right)
 }
 
-// The environment of a row, by those of the rows before it.
-fn environment(envs: &[u128], row: Row) -> u128
-    requires { length envs.now < 128 }
-    ensures { result ≡ environment_of envs.now row }
+// Whether entry t is an arrow from n qubits to n qubits.
+fn is_gate(types: &[TypeEntry], n: u8, t: TypeId) -> bool
+    ensures { result ≡ (is_node types.now Arrow t.0 (left_part types.now t.0) (left_part types.now t.0) && is_power types.now n (left_part types.now t.0)) }
 {
-    match row.rule {
-        Rule::Variable => only(envs.len() as u8),
-        Rule::Zero | Rule::One | Rule::Gate(_) => 0,
-        Rule::Lambda { premise, x } => without(env_at(envs, premise), x.0),
-        Rule::PairLambda { premise, x, y } => without(without(env_at(envs, premise), x.0), y.0),
-        Rule::Apply {
-            function: p,
-            argument: q,
+    let Some(entry) = entry_at(types, t) else {
+        return false;
+    };
+    entry.kind == TypeKind::Arrow && entry.right == entry.left && is_power(types, n, entry.left)
+}
+
+// Whether entry t is an arrow from the pair of left and right to the type `to`.
+fn is_pair_arrow(types: &[TypeEntry], t: TypeId, left: TypeId, right: TypeId, to: TypeId) -> bool
+    ensures { result ≡ (is_node types.now Arrow t.0 (left_part types.now t.0) to.0 && is_node types.now Pair (left_part types.now t.0) left.0 right.0) }
+{
+    let Some(entry) = entry_at(types, t) else {
+        return false;
+    };
+    entry.kind == TypeKind::Arrow
+        && entry.right == to
+        && is_node(types, TypeKind::Pair, entry.left, left, right)
+}
+
+// Whether each premise is below k.
+fn all_lower(premises: &[RowId], k: RowId) -> bool
+    ensures { result ≡ list_all (λ p. nat_lt p.0 k.0) premises.now }
+{
+    premises.iter().all(|p| p.0 < k.0)
+}
+
+// The taken rows with the premises, if none of these is taken and no two are the same.
+// A loop here and in releasing: as try_fold, the chain's result and what its closure needs stayed open in the proof.
+fn taking(taken: u128, premises: &[RowId]) -> Option<u128>
+    requires { all_below 128 (numbers premises.now) ≡ true }
+    ensures { result ≡ taking_of taken (numbers premises.now) }
+{
+    let mut taken = taken;
+    for p in premises {
+        if has(taken, p.0) {
+            return None;
         }
-        | Rule::Pair { left: p, right: q } => union(env_at(envs, p), env_at(envs, q)),
+        taken = union(taken, only(p.0));
     }
+    Some(taken)
+}
+
+// The environment less what is bound, if that is in it and no two are the same.
+fn releasing(env: u128, bound: &[RowId]) -> Option<u128>
+    ensures { result ≡ releasing_of env (numbers bound.now) }
+{
+    let mut env = env;
+    for x in bound {
+        if !has(env, x.0) {
+            return None;
+        }
+        env = without(env, x.0);
+    }
+    Some(env)
+}
+
+// What a row adds: the rows that are premises with it, and its environment.
+struct Step {
+    taken: u128,
+    env: u128,
 }
 
 // Rows that passed their checks, with their environments and the rows that are premises.
+// Rows and environments are two vectors, since the holder lends each as a slice.
 #[derive(Drop)]
 pub(crate) struct Checked {
     pub(crate) rows: Vec<Row>,
     pub(crate) envs: Vec<u128>,
-    pub(crate) taken: u128,
+    taken: u128,
+    ghost few: { length rows.items ≤ 128 },
+    ghost surrounded: { envs.items ≡ environments rows.items },
+    ghost used: { taken ≡ taken_by rows.items },
+}
+
+impl Checked {
+    fn new(heap: Global) -> Checked
+        ensures { result.rows.items ≡ [] }
+    {
+        Checked {
+            rows: Vec::new(heap),
+            envs: Vec::new(heap),
+            taken: 0,
+        }
+    }
+
+    // The number of the row behind these.
+    fn next(&self) -> RowId
+        ensures { result.0 ≡ length self.now.rows.items }
+    {
+        RowId(self.rows.len() as u8)
+    }
+
+    // The type of row r, or the qubit where there is no such row.
+    fn type_at(&self, r: RowId) -> TypeId
+        ensures { result.0 ≡ type_at self.now.rows.items r.0 }
+    {
+        let row = self.rows.get(r.0 as usize);
+        row.map_or(TypeId(0), |row| row.ty)
+    }
+
+    // The environment of row r, or none where there is no such row.
+    pub(crate) fn env_at(&self, r: RowId) -> u128
+        ensures { result ≡ slice_index (environments self.now.rows.items) r.0 }
+    {
+        self.envs.get(r.0 as usize).copied().unwrap_or(0)
+    }
+
+    // The variables of own and of the premises' environments.
+    fn gathered(&self, own: u128, premises: &[RowId]) -> u128
+        ensures { result ≡ gathered own (environments self.now.rows.items) (numbers premises.now) }
+    {
+        premises
+            .iter()
+            .fold(own, |env, p| union(env, self.env_at(*p)))
+    }
+
+    // What a row of these premises adds, if it introduces the variables of own and binds those that are bound.
+    fn step(&self, own: u128, premises: &[RowId], bound: &[RowId]) -> Result<Step, Refusal>
+        ensures { result ≡ step_of self.now.rows.items own (numbers premises.now) (numbers bound.now) }
+    {
+        let k = self.next();
+        if !all_lower(premises, k) {
+            return Err(Refusal::PremiseNotLower(k));
+        }
+        let taken = taking(self.taken, premises).ok_or(Refusal::PremiseTaken(k))?;
+        let env = releasing(self.gathered(own, premises), bound).ok_or(Refusal::NotFree(k))?;
+        Ok(Step { taken, env })
+    }
+
+    // What a row of this rule adds.
+    fn rule_step(&self, rule: Rule) -> Result<Step, Refusal>
+        requires { length self.now.rows.items < 128 }
+        ensures { result ≡ rule_step self.now.rows.items rule }
+    {
+        match rule {
+            Rule::Variable => self.step(only(self.next().0), &[], &[]),
+            Rule::Zero | Rule::One | Rule::Gate(_) => self.step(0, &[], &[]),
+            Rule::Lambda { premise, x } => self.step(0, &[premise], &[x]),
+            Rule::PairLambda { premise, x, y } => self.step(0, &[premise], &[x, y]),
+            Rule::Apply {
+                function: p,
+                argument: q,
+            }
+            | Rule::Pair { left: p, right: q } => self.step(0, &[p, q], &[]),
+        }
+    }
+
+    // Whether type t is what the rule gives.
+    fn fits(&self, types: &[TypeEntry], t: TypeId, rule: Rule) -> bool
+        ensures { result ≡ fits_rule types.now self.now.rows.items t.0 rule }
+    {
+        match rule {
+            Rule::Variable => true,
+            Rule::Zero | Rule::One => t.0 == 0,
+            Rule::Gate(gate) => is_gate(types, gate.arity(), t),
+            Rule::Lambda { premise, x } => {
+                is_node(
+                    types,
+                    TypeKind::Arrow,
+                    t,
+                    self.type_at(x),
+                    self.type_at(premise),
+                )
+            }
+            Rule::PairLambda { premise, x, y } => {
+                is_pair_arrow(
+                    types,
+                    t,
+                    self.type_at(x),
+                    self.type_at(y),
+                    self.type_at(premise),
+                )
+            }
+            Rule::Apply { function, argument } => {
+                is_node(
+                    types,
+                    TypeKind::Arrow,
+                    self.type_at(function),
+                    self.type_at(argument),
+                    t,
+                )
+            }
+            Rule::Pair { left, right } => {
+                is_node(
+                    types,
+                    TypeKind::Pair,
+                    t,
+                    self.type_at(left),
+                    self.type_at(right),
+                )
+            }
+        }
+    }
+
+    // These rows with that of a record, or what is wrong with it.
+    fn with(self, types: &[TypeEntry], read: Record) -> Result<Checked, Refusal>
+        requires { length self.rows.items < 128 }
+        ensures { Passes (row_fault types.now self.rows.items read) result (λ v. v.rows.items ≡ self.rows.items ++ row_of read ∷ []) }
+    {
+        let k = self.next();
+        if read.ty.0 as usize > types.len() {
+            return Err(Refusal::NoSuchType(k));
+        }
+        let rule = read.rule.ok_or(Refusal::NoSuchGate(k))?;
+        let Step { taken, env } = self.rule_step(rule)?;
+        if !self.fits(types, read.ty, rule) {
+            return Err(Refusal::TypeMismatch(k));
+        }
+        let Checked {
+            mut rows,
+            mut envs,
+            taken: _,
+        } = self;
+        rows.push(Row { ty: read.ty, rule })?;
+        envs.push(env)?;
+        Ok(Checked { rows, envs, taken })
+    }
+
+    // The lowest row but the last that is no premise.
+    fn unused(&self) -> Option<u8>
+        ensures { result ≡ find (λ q. not (member (taken_by self.now.rows.items) q)) (range_with_len 0 (length self.now.rows.items - 1)) }
+    {
+        let last = self.rows.len().saturating_sub(1) as u8;
+        (0..last).find(|q| !has(self.taken, *q))
+    }
+
+    // Whether each row but the last is a premise.
+    pub(crate) fn all_used(&self) -> Result<(), Refusal>
+        ensures { result_err result ≡ unused_fault self.now.rows.items }
+    {
+        match self.unused() {
+            Some(q) => Err(Refusal::UnusedRow(RowId(q))),
+            None => Ok(()),
+        }
+    }
 }
 
 // The rows of the records, or their first fault.
@@ -287,29 +290,11 @@ pub(crate) fn check_rows(
     records: &[Record],
 ) -> Result<Checked, Refusal>
     requires { length records.now ≤ 128 }
-    ensures { Passes (rows_fault types.now records.now) result (λ v. Knows v.rows.items v.envs.items v.taken (map row_of records.now)) }
+    ensures { Passes (rows_fault types.now records.now) result (λ v. v.rows.items ≡ map row_of records.now) }
 {
-    let mut rows = Vec::new(heap);
-    let mut envs = Vec::new(heap);
-    let mut taken = 0u128;
+    let mut checked = Checked::new(heap);
     for read in records {
-        let row = checked_row(types, rows.as_slice(), envs.as_slice(), taken, *read)?;
-        let env = environment(envs.as_slice(), row);
-        envs.push(env)?;
-        taken = with_premises(taken, row.rule);
-        rows.push(row)?;
+        checked = checked.with(types, *read)?;
     }
-    Ok(Checked { rows, envs, taken })
-}
-
-// The lowest of the first n rows that is no premise, as a refusal.
-pub(crate) fn unused_row(taken: u128, n: u8) -> Option<Refusal>
-    ensures { result ≡ lowest_missing taken 0 n }
-{
-    for q in 0..n {
-        if !has(taken, q) {
-            return Some(Refusal::UnusedRow(RowId(q)));
-        }
-    }
-    None
+    Ok(checked)
 }

@@ -12,7 +12,7 @@ ghost use Rattle.basics.specs.declared.refusal.Layer.TheVariants.{Bytes};
 ghost use Rattle.basics.specs.declared.refusal.Refusal.TheVariants.{OutOfMemory};
 
 use crate::bytes::{Parsed, parse};
-use crate::check::{Checked, check_rows, unused_row};
+use crate::check::{Checked, check_rows};
 use crate::count::Measured;
 use crate::rows::{Row, Rule, Start};
 use crate::starts::wire_starts;
@@ -31,6 +31,7 @@ pub(crate) struct Counts {
 }
 
 // A derivation that passed all checks, with each row's environment and the numbers of wires, gate rows and moves.
+// Rows and environments are two vectors, since the public calls lend each as a slice.
 #[derive(Drop)]
 pub struct Holder {
     types: Vec<TypeEntry>,
@@ -45,24 +46,17 @@ pub struct Holder {
 }
 
 // The counts of rows that passed their own checks, or what is wrong with all of them together.
-fn counted(
-    types: &[TypeEntry],
-    sizes: &[Size],
-    rows: &[Row],
-    envs: &[u128],
-    taken: u128,
-) -> Result<Counts, Refusal>
-    requires { Sound types.now sizes.now rows.now envs.now taken }
-    ensures { MatchResult result (λ n. (whole_fault types.now rows.now ≡ None) × (n.wires ≡ wires_of types.now rows.now) × (n.gates ≡ gate_rows rows.now) × (n.moves ≡ moves_of types.now rows.now)) (λ e. whole_fault types.now rows.now ≡ Some e) }
+fn counted(types: &[TypeEntry], sizes: &[Size], checked: &Checked) -> Result<Counts, Refusal>
+    requires { Sound types.now sizes.now checked.now.rows.items }
+    ensures { MatchResult result (λ n. (whole_fault types.now checked.now.rows.items ≡ None) × (n.wires ≡ wires_of types.now checked.now.rows.items) × (n.gates ≡ gate_rows checked.now.rows.items) × (n.moves ≡ moves_of types.now checked.now.rows.items)) (λ e. whole_fault types.now checked.now.rows.items ≡ Some e) }
 {
-    let last = rows.len() - 1;
-    if let Some(e) = unused_row(taken, last as u8) {
-        return Err(e);
-    }
+    checked.all_used()?;
+    let rows = checked.rows.as_slice();
+    let last = RowId(rows.len() as u8 - 1);
     let measured = Measured { types, sizes, rows };
-    let wires = measured.wires(envs[last]);
+    let wires = measured.wires(checked.env_at(last));
     if wires > 32 {
-        return Err(Refusal::TooManyWires(RowId(last as u8)));
+        return Err(Refusal::TooManyWires(last));
     }
     let places = measured.places();
     Ok(Counts {
@@ -85,14 +79,8 @@ fn accept(heap: Global, parsed: Parsed) -> Result<Holder, Refusal>
     let table = types.as_slice();
     let sizes = type_sizes(heap, table)?;
     let checked = check_rows(heap, table, records.as_slice())?;
-    let Checked { rows, envs, taken } = checked;
-    let counts = counted(
-        table,
-        sizes.as_slice(),
-        rows.as_slice(),
-        envs.as_slice(),
-        taken,
-    )?;
+    let counts = counted(table, sizes.as_slice(), &checked)?;
+    let Checked { rows, envs, .. } = checked;
     Ok(Holder {
         types,
         rows,
@@ -105,19 +93,14 @@ fn accept(heap: Global, parsed: Parsed) -> Result<Holder, Refusal>
 fn decoded(heap: Global, bytes: &[u8]) -> Result<Holder, Refusal>
     ensures { Gives (derivation_of bytes.now) result (λ h. record { types = h.types.items; rows = h.rows.items }) }
 {
-    let parsed = parse(heap, bytes)?;
-    accept(heap, parsed)
+    accept(heap, parse(heap, bytes)?)
 }
 
 // A qubit in state zero.
-fn zero_row() -> Row
-    ensures { result ≡ zero_row }
-{
-    Row {
-        ty: TypeId(0),
-        rule: Rule::Zero,
-    }
-}
+const ZERO_ROW: Row = Row {
+    ty: TypeId(0),
+    rule: Rule::Zero,
+};
 
 impl Holder {
     // A holder of one zero row.
@@ -125,7 +108,7 @@ impl Holder {
         ensures { MatchResult result (λ h. (h.types.items ≡ []) × (h.rows.items ≡ zero_row ∷ [])) (λ e. e ≡ OutOfMemory Bytes) }
     {
         let mut rows = Vec::new(heap);
-        rows.push(zero_row())?;
+        rows.push(ZERO_ROW)?;
         let mut envs = Vec::new(heap);
         envs.push(0)?;
         Ok(Holder {
@@ -146,8 +129,7 @@ impl Holder {
         ensures exact { ReadExact bytes.now result self.new.types.items self.new.rows.items }
         ensures kept { OnErr result (self.new ≡ self.old) }
     {
-        let holder = decoded(heap, bytes)?;
-        *self = holder;
+        *self = decoded(heap, bytes)?;
         Ok(())
     }
 

@@ -5,15 +5,15 @@ use Rattle.derivation.proofs.FormatLaws.{parse-counts}
 use Rattle.derivation.proofs.ReadLaws.{parsed_refused, accepted_gives}
 use Rattle.derivation.proofs.holder.decoded.Goals as goal
 
-pub returns-in_err-parsed : goal.returns-in_err-parsed
-returns-in_err-parsed c =
+pub returns-in_err-parse : goal.returns-in_err-parse
+returns-in_err-parse c =
     let p = err_from_is_err_and c.from_residual.result c.from_residual.ensures.1 in
-    rw (p.1, p.2) (⊎_elim (λ h. inl (parsed_refused c.args.bytes.now _ h)) (λ h. inr h) c.in_err-parsed.ensures)
+    rw (p.1, p.2) (⊎_elim (λ h. inl (parsed_refused c.args.bytes.now _ h)) (λ h. inr h) c.in_err-parse.ensures)
 
 pub accept-requires : goal.accept-requires
 accept-requires c =
-    let n = parse-counts c.args.bytes.now _ c.in_ok-parsed.ensures in
+    let n = parse-counts c.args.bytes.now _ c.in_ok-parse.ensures in
     record { few_types = n.0; some_rows = n.1; few_rows = n.2 }
 
 pub returns : goal.returns
-returns c = accepted_gives c.args.bytes.now _ c.in_ok-parsed.ensures (λ h. vec_items h.types) (λ h. vec_items h.rows) c.accept.result c.accept.ensures
+returns c = accepted_gives c.args.bytes.now _ c.in_ok-parse.ensures (λ h. vec_items h.types) (λ h. vec_items h.rows) c.accept.result c.accept.ensures
