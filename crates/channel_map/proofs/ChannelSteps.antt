@@ -8,8 +8,8 @@ use Rattle.std.proofs.lemmas.List.{drop_all, drop_more, get_or-set_other, get_or
 use Rattle.std.proofs.lemmas.Bool.{and_from, and_left, and_parts, and_right, cases_Bool, cases_lt, cond-false, cond-true, le-leb, leb-true, le-ltb, lt-leb, lt-ltb}
 use Rattle.basics.specs.declared.numbers.Wire.{Wire}
 use Rattle.derivation.specs.Rows.{all_below}
-use Rattle.derivation.specs.Sets.{has, only, union}
-use Rattle.derivation.proofs.SetLaws.{union_none}
+use Rattle.basics.specs.Sets.{has, only, union}
+use Rattle.basics.proofs.SetLaws.{union_none}
 use Rattle.target.specs.Interface.{numbers_of}
 use Rattle.target.proofs.MaskLaws.{below_at}
 use Rattle.channel_map.specs.Channels.{channel_at, channel_of, channels_from, channels_of, fitting, seatable}

@@ -10,9 +10,9 @@ use Rattle.std.proofs.lemmas.List.{ext_get_or, get_or-take, get_or_default, get_
 use Rattle.std.proofs.lemmas.Bool.{and_parts, and_from, and_right, both_ways, cases_Bool, cases_eq, cases_lt, cases_order, cond-true, cond-false, eq-eqb, eqb-true, ne_eqb, ltb-true, ltb-false, le-ltb, lt-ltb, or_from, or_left, or_parts, or_right}
 use Rattle.derivation.specs.Faults.{first_fault}
 use Rattle.basics.specs.declared.refusal.Refusal.TheVariants.{ChannelEntry}
-use Rattle.derivation.specs.Sets.{has, only, union}
+use Rattle.basics.specs.Sets.{has, only, union}
 use Rattle.derivation.proofs.FaultLaws.{cond_none, first-after, first-at, none_from}
-use Rattle.derivation.proofs.SetLaws.{has_none, has-only, has-union}
+use Rattle.basics.proofs.SetLaws.{has_none, has-only, has-union}
 use Rattle.target.specs.Interface.{disjoint, sets_fit, shares, within}
 use Rattle.target.proofs.MaskLaws.{has-and, has_past}
 use Rattle.target.proofs.WireLaws.{not_shared}

@@ -8,8 +8,8 @@ use Rattle.basics.specs.declared.refusal.Refusal.{Refusal}
 use Rattle.basics.specs.declared.refusal.Refusal.TheVariants.{AtCapacity, NotTaken, WireMisuse, WireSets}
 use Rattle.basics.specs.Gates.{arity}
 use Rattle.derivation.specs.Rows.{all_below, all_in}
-use Rattle.derivation.specs.Sets.{has, only, union, without}
-use Rattle.derivation.proofs.SetLaws.{has-only, has-union, has-without}
+use Rattle.basics.specs.Sets.{has, only, union, without}
+use Rattle.basics.proofs.SetLaws.{has-only, has-union, has-without}
 use Rattle.target.specs.Interface.{Commutes, Kept, Obeys, View, apart_from, applied_view, apply_fault, begin_fault, begun_view, seated, sets_fit, shares}
 use Rattle.target.proofs.MaskLaws.{all_below_lem, has_below}
 use Rattle.target.proofs.WireLaws.{arity_few}

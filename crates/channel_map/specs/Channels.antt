@@ -6,7 +6,7 @@ use Rattle.basics.specs.declared.refusal.Refusal.{Refusal}
 use Rattle.basics.specs.declared.refusal.Refusal.TheVariants.{ChannelEntry}
 use Rattle.derivation.specs.Faults.{first_fault}
 use Rattle.derivation.specs.Rows.{all_below}
-use Rattle.derivation.specs.Sets.{has, only, union}
+use Rattle.basics.specs.Sets.{has, only, union}
 use Rattle.target.specs.Interface.{View, shares}
 
 -- an entry of a table is at fault if it is over 31 or stands before

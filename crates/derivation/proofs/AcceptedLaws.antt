@@ -10,7 +10,7 @@ use Rattle.derivation.specs.declared.types.TypeEntry.{TypeEntry}
 use Rattle.derivation.specs.declared.rows.Rule.{Rule}
 use Rattle.derivation.specs.declared.rows.Rule.TheVariants.{Variable, Zero, One, Gate, Lambda, PairLambda, Apply, Pair}
 use Rattle.derivation.specs.declared.rows.Row.{Row}
-use Rattle.derivation.specs.Sets.{has, union}
+use Rattle.basics.specs.Sets.{has, union}
 use Rattle.basics.specs.Gates.{arity}
 use Rattle.derivation.specs.Trees.{Tree, qubit, arrow, pair, power, tree, types_fault}
 use Rattle.derivation.specs.Rows.{premises, binders, introduced, gathered, less, environments, taken, none_in, all_in, binds_free, fits}
@@ -20,7 +20,7 @@ use Rattle.derivation.specs.Judgements.{Infers, variable, zero_bit, one_bit, gat
 use Rattle.derivation.specs.Places.{wires}
 use Rattle.derivation.specs.Accepted.{Table, Accepted, rows_fault, valid}
 use Rattle.derivation.proofs.FaultLaws.{cond_none, or_else_both, or_else_none, none_from, none_to}
-use Rattle.derivation.proofs.SetLaws.{has-without}
+use Rattle.basics.proofs.SetLaws.{has-without}
 use Rattle.derivation.proofs.TreeLaws.{Lower, table-from, table_to, tree_zero, tree-node, tree-power, parts, node-tree, power-tree}
 use Rattle.derivation.proofs.RowLaws.{premises_at, Below, Low, below_from_lem, below_to, once-from, unused_none, once_free}
 use Rattle.derivation.proofs.RowLaws.{gathered-take, env-row, binders-low, apart-premises}

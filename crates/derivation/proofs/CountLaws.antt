@@ -8,7 +8,7 @@ use Rattle.derivation.specs.declared.types.Size.{Size}
 use Rattle.derivation.specs.declared.types.TypeEntry.{TypeEntry}
 use Rattle.derivation.specs.Judgements.{env_at, tree_at}
 use Rattle.derivation.specs.Places.{all_mates, given, keep, mates}
-use Rattle.derivation.specs.Sets.{has}
+use Rattle.basics.specs.Sets.{has}
 use Rattle.derivation.specs.Trees.{Tree, atoms}
 use Rattle.derivation.specs.Weights.{positives, size_of, weight}
 use Rattle.derivation.proofs.PlaceLaws.{length-given}

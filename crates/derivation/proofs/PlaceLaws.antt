@@ -11,7 +11,7 @@ use Rattle.derivation.specs.declared.rows.Row.{Row}
 use Rattle.derivation.specs.declared.rows.Part.{Part}
 use Rattle.derivation.specs.declared.rows.Part.TheVariants.{Ty, Variable as Var}
 use Rattle.derivation.specs.declared.rows.Place.{Place}
-use Rattle.derivation.specs.Sets.{has}
+use Rattle.basics.specs.Sets.{has}
 use Rattle.derivation.specs.Trees.{Tree, qubit, arrow, pair, atoms, positive}
 use Rattle.derivation.specs.Judgements.{tree_at, env_at}
 use Rattle.derivation.specs.Places.{numbers, keep, places_in, places_at, places, negative, given}

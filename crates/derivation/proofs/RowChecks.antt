@@ -14,7 +14,7 @@ use Rattle.derivation.specs.declared.rows.Rule.TheVariants.{Variable, Zero, One,
 use Rattle.derivation.specs.declared.rows.Row.{Row}
 use Rattle.derivation.specs.declared.rows.Record.{Record}
 use Rattle.basics.specs.declared.refusal.Refusal.TheVariants.{UnusedRow, PremiseNotLower, PremiseTaken, NotFree, TypeMismatch}
-use Rattle.derivation.specs.Sets.{has}
+use Rattle.basics.specs.Sets.{has}
 use Rattle.derivation.specs.Growth.{grown}
 use Rattle.derivation.specs.Rows.{premises, binders, introduced, gathered, less, environment, environments, lowest_missing, taken, including, all_below, none_in, all_in, binds_free, row_fault, numbers, fits, rule_step, step, taking, releasing}
 use Rattle.derivation.specs.Faults.{or_else}

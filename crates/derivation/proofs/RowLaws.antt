@@ -6,12 +6,12 @@ use Rattle.std.proofs.lemmas.Bool.{and_parts, and_from, or_cases, not-true, not_
 use Rattle.derivation.specs.declared.rows.Rule.{Rule}
 use Rattle.derivation.specs.declared.rows.Rule.TheVariants.{Variable, Zero, One, Gate, Lambda, PairLambda, Apply, Pair}
 use Rattle.derivation.specs.declared.rows.Row.{Row}
-use Rattle.derivation.specs.Sets.{has, only, union, without}
+use Rattle.basics.specs.Sets.{has, only, union, without}
 use Rattle.derivation.specs.Rows.{premises, binders, introduced, gathered, less, environment, environments, including, taken_from, taken}
 use Rattle.derivation.specs.Rows.{all_below, none_in, all_in, no_row, lowest_missing, unused_fault}
 use Rattle.derivation.specs.Judgements.{Apart, rule_at, env_at}
 use Rattle.derivation.specs.Accepted.{occurrences, uses}
-use Rattle.derivation.proofs.SetLaws.{eqb_swap, has_none, has-only, has-union, has-without}
+use Rattle.basics.proofs.SetLaws.{eqb_swap, has_none, has-only, has-union, has-without}
 use Rattle.derivation.proofs.GrowthLaws.{length-grown, get_or-grown, get_or-grown-take}
 use Rattle.derivation.proofs.TreeLaws.{not_so}
 

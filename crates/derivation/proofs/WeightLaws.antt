@@ -6,13 +6,13 @@ use Rattle.std.proofs.lemmas.Bool.{cases_lt, eq-eqb, ne_eqb, and_parts, ltb-true
 use Rattle.derivation.specs.declared.types.TypeEntry.{TypeEntry}
 use Rattle.derivation.specs.declared.rows.Row.{Row}
 use Rattle.derivation.specs.declared.rows.Rule.{Rule}
-use Rattle.derivation.specs.Sets.{has, only, union, without}
+use Rattle.basics.specs.Sets.{has, only, union, without}
 use Rattle.derivation.specs.Trees.{Tree, qubit, arrow, pair, atoms}
 use Rattle.derivation.specs.Rows.{premises, binders, introduced, all_below}
 use Rattle.derivation.specs.Judgements.{Judgement, Apart, rule_at, env_at, judged, Follows}
 use Rattle.derivation.specs.Judgements.{Infers, variable, zero_bit, one_bit, gate, abstraction, pair_abstraction, application, pairing}
 use Rattle.derivation.specs.Weights.{weight, positives}
-use Rattle.derivation.proofs.SetLaws.{has_none, has-only, has-union, has-without}
+use Rattle.basics.proofs.SetLaws.{has_none, has-only, has-union, has-without}
 
 -- the sum depends only on f at the members below n
 pub weight-same : (m n : ℕ) (f g : ℕ → ℕ) → ((x : ℕ) → x < n → has m x ≡ true → f x ≡ g x) → weight m f n ≡ weight m g n

@@ -2,7 +2,7 @@
 use Rattle.std.proofs.Common.{◌≡◌, true, List, [], ◌∷◌, sym, refl, ap, ◌∙◌, ap₂}
 use Rattle.derivation.specs.declared.types.TypeEntry.{TypeEntry}
 use Rattle.derivation.specs.declared.rows.Row.{Row}
-use Rattle.derivation.specs.Sets.{has, only, union, without}
+use Rattle.basics.specs.Sets.{has, only, union, without}
 use Rattle.derivation.specs.Growth.{grown}
 use Rattle.derivation.specs.Faults.{first_fault}
 use Rattle.derivation.specs.Trees.{trees}

@@ -6,7 +6,7 @@ use Rattle.basics.specs.declared.numbers.RowId.{RowId}
 use Rattle.derivation.specs.declared.rows.Rule.{Rule}
 use Rattle.derivation.specs.declared.rows.Rule.TheVariants.{Variable, Zero, One, Gate, Lambda, PairLambda, Apply, Pair}
 use Rattle.derivation.specs.declared.rows.Row.{Row}
-use Rattle.derivation.specs.Sets.{has, only, union, without}
+use Rattle.basics.specs.Sets.{has, only, union, without}
 use Rattle.basics.specs.Gates.{arity}
 use Rattle.derivation.specs.Trees.{Tree, qubit, arrow, pair, power, tree}
 use Rattle.derivation.specs.Rows.{premises, environments, no_row, type_at}

@@ -1,4 +1,3 @@
-pub mod Sets
 pub mod Growth
 pub mod Faults
 pub mod Trees

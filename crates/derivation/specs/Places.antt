@@ -8,7 +8,7 @@ use Rattle.derivation.specs.declared.rows.Row.{Row}
 use Rattle.derivation.specs.declared.rows.Part.{Part}
 use Rattle.derivation.specs.declared.rows.Part.TheVariants.{Ty, Variable as Var}
 use Rattle.derivation.specs.declared.rows.Place.{Place}
-use Rattle.derivation.specs.Sets.{has}
+use Rattle.basics.specs.Sets.{has}
 use Rattle.basics.specs.Gates.{arity}
 use Rattle.derivation.specs.Trees.{Tree, atoms, positive}
 use Rattle.derivation.specs.Judgements.{tree_at, env_at}

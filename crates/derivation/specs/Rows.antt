@@ -12,7 +12,7 @@ use Rattle.derivation.specs.declared.rows.Record.{Record}
 use Rattle.derivation.specs.declared.check.Step.{Step}
 use Rattle.basics.specs.declared.refusal.Refusal.{Refusal}
 use Rattle.basics.specs.declared.refusal.Refusal.TheVariants.{NoSuchType, PremiseNotLower, PremiseTaken, NotFree, TypeMismatch, NoSuchGate, UnusedRow}
-use Rattle.derivation.specs.Sets.{has, only, union, without}
+use Rattle.basics.specs.Sets.{has, only, union, without}
 use Rattle.derivation.specs.Growth.{grown}
 use Rattle.basics.specs.Gates.{arity}
 use Rattle.derivation.specs.Trees.{same_entry, no_entry}

@@ -92,7 +92,7 @@ impl FromBytes for TypeEntry {
 fn gate_rule(code: u8) -> Option<Rule>
     ensures { result ≡ gate_rule (gate_of code) }
 {
-    Gate::from_code(code).map(Rule::Gate)
+    Gate::try_from(code).ok().map(Rule::Gate)
 }
 
 // A row as it was read.

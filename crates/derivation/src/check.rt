@@ -2,7 +2,7 @@
 ghost use Rattle.std.specs.Prelude.{◌≡◌, ◌-◌, ◌<◌, ◌≤◌, true, not, ◌&&◌, [], ◌∷◌, ◌++◌, map, length, nat_lt, slice_index};
 ghost use Rattle.std.specs.List.{find, list_all, range_with_len};
 ghost use Rattle.std.specs.Result.{result_err};
-ghost use Rattle.derivation.specs.Sets.{has as member};
+ghost use Rattle.basics.specs.Sets.{has as member};
 ghost use Rattle.derivation.specs.declared.types.TypeKind.TheVariants.{Arrow, Pair};
 ghost use Rattle.derivation.specs.Accepted.{rows_fault};
 ghost use Rattle.derivation.specs.Faults.{Checked as Passes};

@@ -1,6 +1,6 @@
 // Sets of rows as masks: bit x of a mask says whether row x is in the set.
 ghost use Rattle.std.specs.Prelude.{◌≡◌, ◌^◌, ◌<◌};
-ghost use Rattle.derivation.specs.Sets.{has as member, only as single, union as either, without as removed};
+ghost use Rattle.basics.specs.Sets.{has as member, only as single, union as either, without as removed};
 
 pub(crate) fn has(set: u128, x: u8) -> bool
     ensures { result ≡ member set x }

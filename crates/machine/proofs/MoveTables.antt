@@ -4,7 +4,7 @@ use mathlib.Core.Path.{subst⁻¹}
 use Rattle.std.specs.Option.{option_map}
 use Rattle.std.proofs.lemmas.List.{get_or_past}
 use Rattle.std.proofs.lemmas.Option.{none-some}
-use Rattle.derivation.proofs.SetLaws.{has_none}
+use Rattle.basics.proofs.SetLaws.{has_none}
 use Rattle.std.proofs.lemmas.Bool.{lt-ltb, le-ltb, cases_lt}
 use Rattle.derivation.specs.declared.types.TypeEntry.{TypeEntry}
 use Rattle.derivation.specs.declared.rows.Row.{Row}
@@ -14,7 +14,7 @@ use Rattle.derivation.specs.declared.rows.Rule.TheVariants.{Variable}
 use Rattle.derivation.specs.declared.rows.Part.{Part}
 use Rattle.derivation.specs.declared.rows.Part.TheVariants.{Ty, Variable as Var}
 use Rattle.derivation.specs.declared.rows.Place.{Place}
-use Rattle.derivation.specs.Sets.{has}
+use Rattle.basics.specs.Sets.{has}
 use Rattle.derivation.specs.Trees.{Tree, qubit, atoms, positive}
 use Rattle.derivation.specs.Rows.{no_row, environments}
 use Rattle.derivation.specs.Judgements.{rule_at, tree_at, env_at}

@@ -10,7 +10,7 @@ use Rattle.derivation.specs.declared.rows.Part.TheVariants.{Ty, Variable as Var}
 use Rattle.derivation.specs.declared.rows.Place.{Place}
 use Rattle.derivation.specs.contracts.rows.PartPartialEq.TheImpl.{ghosts as part_equality}
 use Rattle.derivation.specs.contracts.rows.PlacePartialEq.TheImpl.{ghosts as equality}
-use Rattle.derivation.specs.Sets.{has}
+use Rattle.basics.specs.Sets.{has}
 use Rattle.machine.specs.declared.tables.Polarity.{Polarity}
 use Rattle.machine.specs.declared.tables.Polarity.TheVariants.{Negative, Positive}
 use Rattle.machine.specs.declared.tables.TypeFacts.{TypeFacts}

@@ -4,9 +4,9 @@ use native.Mathlib.Nat.{div-eq_of_lt, mul-mod_left}
 use lib.Bits.{bit_or, bit_xor, or_lt, xor_lt, xor_shr, xor_mod}
 use Rattle.std.proofs.lemmas.Nat.{pow_pos, pow-add, shl-shr, shr-shr, shl_below, shr_high, mod_below, mod-mul-add}
 use Rattle.std.proofs.lemmas.Bool.{cases_lt, lt-ltb, le-ltb}
-use Rattle.derivation.specs.Sets.{has, union}
+use Rattle.basics.specs.Sets.{has, union}
 use Rattle.derivation.specs.Trees.{Tree, qubit, arrow, pair, atoms, positive}
-use Rattle.derivation.proofs.SetLaws.{has-union}
+use Rattle.basics.proofs.SetLaws.{has-union}
 use Rattle.machine.specs.Facts.{signs_of}
 
 -- a mask below 2 ^ n has no number from n on

@@ -7,7 +7,7 @@ use Rattle.derivation.specs.declared.rows.Row.{Row}
 use Rattle.derivation.specs.declared.rows.Part.{Part}
 use Rattle.derivation.specs.declared.rows.Part.TheVariants.{Ty, Variable as Var}
 use Rattle.derivation.specs.declared.rows.Place.{Place}
-use Rattle.derivation.specs.Sets.{has}
+use Rattle.basics.specs.Sets.{has}
 use Rattle.derivation.specs.Places.{numbers, keep, is_bit, places_in, places_at, negative, given, bits}
 use Rattle.derivation.specs.Accepted.{valid}
 use Rattle.derivation.proofs.AcceptedLaws.{accepted_from_valid}

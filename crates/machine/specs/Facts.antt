@@ -9,7 +9,7 @@ use Rattle.derivation.specs.declared.rows.Row.{Row}
 use Rattle.derivation.specs.declared.rows.Part.{Part}
 use Rattle.derivation.specs.declared.rows.Part.TheVariants.{Ty, Variable as Var}
 use Rattle.derivation.specs.declared.rows.Place.{Place}
-use Rattle.derivation.specs.Sets.{has}
+use Rattle.basics.specs.Sets.{has}
 use Rattle.derivation.specs.Trees.{Tree, qubit, arrow, pair, atoms}
 use Rattle.derivation.specs.Judgements.{env_at, tree_at}
 use Rattle.derivation.specs.Places.{numbers, keep, negative}

@@ -6,7 +6,7 @@ ghost use Rattle.basics.specs.declared.refusal.Refusal.TheVariants.{OutOfMemory}
 ghost use Rattle.derivation.specs.Accepted.{valid};
 ghost use Rattle.derivation.specs.Judgements.{env_at, rule_at, tree_at};
 ghost use Rattle.derivation.specs.Places.{negative, numbers};
-ghost use Rattle.derivation.specs.Sets.{has as member};
+ghost use Rattle.basics.specs.Sets.{has as member};
 ghost use Rattle.derivation.specs.declared.rows.Part.TheVariants.{Ty, Variable as Var};
 ghost use Rattle.derivation.specs.declared.rows.Rule.TheVariants.{Apply, Lambda, Pair, PairLambda};
 ghost use Rattle.machine.specs.Calls.{end_at, gate_at, place_at, rule_found, seat_at};

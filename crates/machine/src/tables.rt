@@ -4,7 +4,7 @@ ghost use Rattle.derivation.specs.Accepted.{Accepted, Table};
 ghost use Rattle.derivation.specs.Judgements.{rule_at};
 ghost use Rattle.derivation.specs.Places.{is_bit, numbers};
 ghost use Rattle.derivation.specs.Rows.{all_below, environments, premises};
-ghost use Rattle.derivation.specs.Sets.{has as member};
+ghost use Rattle.basics.specs.Sets.{has as member};
 ghost use Rattle.derivation.specs.Trees.{trees};
 ghost use Rattle.basics.specs.declared.refusal.Layer.TheVariants.{Bytes};
 ghost use Rattle.basics.specs.declared.refusal.Refusal.TheVariants.{OutOfMemory};

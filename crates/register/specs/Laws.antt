@@ -1,7 +1,7 @@
 -- What the bit register comes to, wire by wire, and a worked example.
 use Rattle.std.specs.Prelude.{◌≡◌, true, [], ◌∷◌}
 use Rattle.basics.specs.declared.gate.Gate.TheVariants.{Cx}
-use Rattle.derivation.specs.Sets.{has}
+use Rattle.basics.specs.Sets.{has}
 use Rattle.register.specs.Register.{Contents, FlipsOne, PreparesEach, acted, prepared}
 
 -- begin with wire 0 one and wire 1 zero, then cx: both bits are 1, and the phase is 0

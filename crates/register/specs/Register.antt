@@ -2,7 +2,7 @@
 use Rattle.std.specs.Prelude.{◌≡◌, ℕ, ◌+◌, ◌%◌, Bool, true, false, cond, not, ◌&&◌, List, [], ◌∷◌, ◌==◌, bit_and, bit_or, bit_xor}
 use Rattle.basics.specs.declared.gate.Gate.{Gate}
 use Rattle.basics.specs.declared.gate.Gate.TheVariants.{H, S, T, X, Z, Cx, Cz, Ccx}
-use Rattle.derivation.specs.Sets.{has, only}
+use Rattle.basics.specs.Sets.{has, only}
 use Rattle.target.specs.Interface.{sets_fit}
 
 -- what a register holds: the set of wires whose bit is 1, the phase, and the set of wires that the maker set to 1 for when they are given

@@ -8,8 +8,8 @@ use Rattle.basics.specs.declared.numbers.Wire.{Wire}
 use Rattle.basics.specs.declared.gate.Gate.{Gate}
 use Rattle.basics.specs.declared.gate.Gate.TheVariants.{H, S, T, X, Z, Cx, Cz, Ccx}
 use Rattle.derivation.specs.Rows.{all_below}
-use Rattle.derivation.specs.Sets.{has, only, union}
-use Rattle.derivation.proofs.SetLaws.{has_none, has-only, has-union, eqb_swap}
+use Rattle.basics.specs.Sets.{has, only, union}
+use Rattle.basics.proofs.SetLaws.{has_none, has-only, has-union, eqb_swap}
 use Rattle.target.specs.Interface.{apart_from, disjoint, numbers_of, shares, within, Commutes}
 use Rattle.target.proofs.MaskLaws.{has-and}
 use Rattle.target.proofs.WireLaws.{apart-swap, first-apart, not_shared}

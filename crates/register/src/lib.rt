@@ -5,7 +5,7 @@ pub mod laws;
 
 ghost use Rattle.std.specs.Prelude.{◌≡◌, ℕ, ◌<◌, ◌≤◌, true, if◌then◌else◌, Some, None, nat_lt};
 ghost use Rattle.derivation.specs.Rows.{all_below};
-ghost use Rattle.derivation.specs.Sets.{has as member};
+ghost use Rattle.basics.specs.Sets.{has as member};
 ghost use Rattle.target.specs.Interface.{numbers_of};
 ghost use Rattle.register.specs.Register.{Contents, acted, all_one, flip_last, holding, prepared, takes_all_but_h, turn_by};
 ghost use Rattle.register.specs.RegisterLaws.{acted_commutes};

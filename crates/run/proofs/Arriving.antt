@@ -11,8 +11,8 @@ use Rattle.derivation.specs.declared.rows.Rule.TheVariants.{Variable, Zero, One,
 use Rattle.derivation.specs.declared.rows.Row.{Row}
 use Rattle.derivation.specs.declared.rows.Place.{Place}
 use Rattle.derivation.specs.Judgements.{rule_at}
-use Rattle.derivation.specs.Sets.{has, only, union, without}
-use Rattle.derivation.proofs.SetLaws.{has-only, has-union, has-without}
+use Rattle.basics.specs.Sets.{has, only, union, without}
+use Rattle.basics.proofs.SetLaws.{has-only, has-union, has-without}
 use Rattle.theory.specs.Ports.{at, is_end, is_place}
 use Rattle.theory.specs.Tokens.{is_seat, seats}
 use Rattle.theory.proofs.Ways.{place-parts}

@@ -9,7 +9,7 @@ use Rattle.derivation.specs.declared.rows.Row.{Row}
 use Rattle.derivation.specs.declared.rows.Place.{Place}
 use Rattle.derivation.specs.Judgements.{rule_at}
 use Rattle.derivation.specs.Rows.{all_below}
-use Rattle.derivation.specs.Sets.{only, union, without}
+use Rattle.basics.specs.Sets.{only, union, without}
 use Rattle.theory.specs.Ports.{is_end, is_place, next}
 use Rattle.theory.specs.Tokens.{is_seat, no_place, seats}
 use Rattle.target.specs.Interface.{numbers_of}

@@ -4,7 +4,7 @@ use Rattle.std.specs.List.{AllByRecursion as All}
 use Rattle.std.proofs.lemmas.Bool.{and_parts, and_from}
 use Rattle.std.proofs.ByRecursion.{All-get_or}
 use Rattle.basics.specs.declared.gate.Gate.{Gate}
-use Rattle.derivation.proofs.SetLaws.{eqb_swap}
+use Rattle.basics.proofs.SetLaws.{eqb_swap}
 use Rattle.theory.specs.Ports.{listed}
 use Rattle.theory.specs.Tokens.{Fired}
 use Rattle.theory.specs.Gates.{Swaps, acted, apart_from as none_common}

@@ -14,7 +14,7 @@ use Rattle.derivation.specs.Judgements.{rule_at}
 use Rattle.derivation.specs.Places.{numbers}
 use Rattle.derivation.specs.Rows.{all_below}
 use Rattle.derivation.proofs.PlaceLaws.{length-numbers}
-use Rattle.derivation.proofs.SetLaws.{has_none}
+use Rattle.basics.proofs.SetLaws.{has_none}
 use Rattle.derivation.proofs.TreeLaws.{not_so}
 use Rattle.theory.specs.Ports.{at, listed}
 use Rattle.theory.specs.Runs.{Reached}

@@ -7,7 +7,7 @@ use Rattle.derivation.specs.declared.rows.Row.{Row}
 use Rattle.derivation.specs.declared.rows.Place.{Place}
 use Rattle.derivation.specs.Judgements.{rule_at}
 use Rattle.derivation.specs.Rows.{no_row}
-use Rattle.derivation.specs.Sets.{has}
+use Rattle.basics.specs.Sets.{has}
 use Rattle.theory.specs.Ports.{at, is_end, is_place}
 use Rattle.theory.specs.Tokens.{all_stand, among, is_seat, movable, no_place, seats, together}
 use Rattle.theory.proofs.Basics.{both_pass}

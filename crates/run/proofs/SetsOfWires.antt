@@ -9,8 +9,8 @@ use Rattle.std.proofs.lemmas.Simd.{bit_mask_l}
 use Rattle.std.proofs.lemmas.Bool.{both_ways, and_parts, and_from, and_right, cases_lt, eqb-true, eqb-false, eq-eqb, ne_eqb, not-true, not_from_false}
 use Rattle.std.proofs.lemmas.Nat.Bits.{same_from_bits}
 use Rattle.std.proofs.Math.Bool.{and-true}
-use Rattle.derivation.specs.Sets.{has, without}
-use Rattle.derivation.proofs.SetLaws.{has_none, has-without}
+use Rattle.basics.specs.Sets.{has, without}
+use Rattle.basics.proofs.SetLaws.{has_none, has-without}
 use Rattle.derivation.proofs.TreeLaws.{not_so}
 use Rattle.theory.proofs.Basics.{below_suc, some_below}
 

@@ -6,8 +6,8 @@ use Rattle.derivation.specs.declared.types.TypeEntry.{TypeEntry}
 use Rattle.derivation.specs.declared.rows.Row.{Row}
 use Rattle.derivation.specs.declared.rows.Place.{Place}
 use Rattle.derivation.specs.Accepted.{Accepted}
-use Rattle.derivation.specs.Sets.{has}
-use Rattle.derivation.proofs.SetLaws.{has_none}
+use Rattle.basics.specs.Sets.{has}
+use Rattle.basics.proofs.SetLaws.{has_none}
 use Rattle.theory.specs.Ports.{is_end, is_place, starts}
 use Rattle.theory.specs.Runs.{begun}
 use Rattle.theory.specs.Tokens.{is_seat, no_place}

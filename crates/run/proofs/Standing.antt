@@ -8,7 +8,7 @@ use Rattle.derivation.specs.declared.rows.Part.TheVariants.{Ty, Variable as Var}
 use Rattle.derivation.specs.declared.rows.Row.{Row}
 use Rattle.derivation.specs.declared.rows.Place.{Place}
 use Rattle.derivation.specs.Judgements.{rule_at}
-use Rattle.derivation.specs.Sets.{has}
+use Rattle.basics.specs.Sets.{has}
 use Rattle.theory.specs.Ports.{at, held, is_end, is_place}
 use Rattle.theory.specs.Tokens.{is_seat, seats}
 use Rattle.theory.proofs.Ways.{seat_facts}

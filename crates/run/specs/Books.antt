@@ -5,7 +5,7 @@ use Rattle.derivation.specs.declared.types.TypeEntry.{TypeEntry}
 use Rattle.derivation.specs.declared.rows.Row.{Row}
 use Rattle.derivation.specs.declared.rows.Place.{Place}
 use Rattle.derivation.specs.Judgements.{rule_at}
-use Rattle.derivation.specs.Sets.{only, union, without}
+use Rattle.basics.specs.Sets.{only, union, without}
 use Rattle.theory.specs.Ports.{at, is_end, is_place, next, starts}
 use Rattle.theory.specs.Runs.{Reached}
 use Rattle.theory.specs.Tokens.{Fired, is_seat, movable, no_place, seats, stands_at, wire_at}

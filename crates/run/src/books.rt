@@ -1,7 +1,7 @@
 // What a run keeps of its tokens, so that no move looks at all wires: the place of each token, who waits at each row, and
 // who can move.
 ghost use Rattle.std.specs.Prelude.{◌≡◌, ◌<◌, ◌≤◌, true, length, take, IfOk, slice_index_or};
-ghost use Rattle.derivation.specs.Sets.{only, union, without as removed};
+ghost use Rattle.basics.specs.Sets.{only, union, without as removed};
 ghost use Rattle.derivation.specs.Rows.{all_below};
 ghost use Rattle.target.specs.Interface.{numbers_of};
 ghost use Rattle.run.specs.Books.{FitFor, books_of, nobody, passed_in, sat, settled_in, start_books, stepped_in};

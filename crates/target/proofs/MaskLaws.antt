@@ -6,9 +6,9 @@ use Rattle.std.proofs.lemmas.Nat.{pow_pos, le-div, mod_below}
 use Rattle.std.proofs.lemmas.List.{get_or-map, length-map}
 use Rattle.std.proofs.lemmas.Bool.{cases_lt, lt-ltb, le-ltb, eq-eqb, ne_eqb, and_parts, and_from, both_ways}
 use Rattle.derivation.specs.Rows.{all_in, all_below}
-use Rattle.derivation.specs.Sets.{has, without}
+use Rattle.basics.specs.Sets.{has, without}
 use Rattle.derivation.proofs.RowLaws.{below_from_lem}
-use Rattle.derivation.proofs.SetLaws.{has-without}
+use Rattle.basics.proofs.SetLaws.{has-without}
 use Rattle.basics.specs.declared.numbers.Wire.{Wire}
 use Rattle.target.specs.Interface.{numbers_of}
 

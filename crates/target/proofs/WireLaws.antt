@@ -4,7 +4,7 @@ use Rattle.std.proofs.lemmas.Bool.{and_parts, both_ways, cases_Bool, cond-false,
 use Rattle.basics.specs.declared.gate.Gate.{Gate}
 use Rattle.basics.specs.declared.gate.Gate.TheVariants.{H, S, T, X, Z, Cx, Cz, Ccx}
 use Rattle.basics.specs.Gates.{arity}
-use Rattle.derivation.proofs.SetLaws.{eqb_swap}
+use Rattle.basics.proofs.SetLaws.{eqb_swap}
 use Rattle.target.specs.Interface.{apart_from, shares}
 
 pub arity_few : (g : Gate) → arity g ≤ 3

@@ -1,7 +1,7 @@
 // The checks that all kinds of targets share; a maker of a new kind may call them too.
 ghost use Rattle.std.specs.Prelude.{◌≡◌, ◌^◌, not, if◌then◌else◌, Some, None, nat_le, nat_lt};
 ghost use Rattle.derivation.specs.Rows.{all_in};
-ghost use Rattle.derivation.specs.Sets.{has as member, without as removed};
+ghost use Rattle.basics.specs.Sets.{has as member, without as removed};
 ghost use Rattle.basics.specs.declared.refusal.Refusal.TheVariants.{AtCapacity, NotTaken, WireMisuse, WireSets};
 ghost use Rattle.target.specs.Interface.{numbers_of, seated as seated_in, sets_fit};
 

@@ -3,7 +3,7 @@ use Rattle.std.proofs.Common.{◌≡◌, ℕ, zero, suc, ◌<◌, Bool, true, fa
 use mathlib.Core.Path.{subst⁻¹}
 use Rattle.std.proofs.lemmas.Bool.{both_ways, cases_Bool, cases_lt, or_cases, or_left, or_right, or_from, eqb-true, eq-eqb}
 use Rattle.derivation.specs.Places.{keep}
-use Rattle.derivation.proofs.SetLaws.{eqb_swap}
+use Rattle.basics.proofs.SetLaws.{eqb_swap}
 use Rattle.derivation.proofs.TreeLaws.{not_so}
 use Rattle.theory.specs.Ports.{listed}
 

@@ -9,13 +9,13 @@ use Rattle.derivation.specs.declared.types.TypeEntry.{TypeEntry}
 use Rattle.derivation.specs.declared.rows.Rule.TheVariants.{Gate}
 use Rattle.derivation.specs.declared.rows.Row.{Row}
 use Rattle.derivation.specs.declared.rows.Place.{Place}
-use Rattle.derivation.specs.Sets.{has, without}
+use Rattle.basics.specs.Sets.{has, without}
 use Rattle.derivation.specs.Rows.{all_in, no_row}
 use Rattle.derivation.specs.Judgements.{rule_at}
 use Rattle.derivation.specs.Places.{is_gate, gate_rows}
 use Rattle.derivation.specs.Weights.{sum_to}
 use Rattle.derivation.specs.Accepted.{Accepted}
-use Rattle.derivation.proofs.SetLaws.{has-without}
+use Rattle.basics.proofs.SetLaws.{has-without}
 use Rattle.derivation.proofs.CountLaws.{kept_more}
 use Rattle.derivation.proofs.TreeLaws.{not_so}
 use Rattle.theory.specs.Ports.{at, is_place, is_end}

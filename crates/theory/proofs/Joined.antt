@@ -7,12 +7,12 @@ use Rattle.derivation.specs.declared.rows.Rule.TheVariants.{Variable, Zero, One,
 use Rattle.derivation.specs.declared.rows.Row.{Row}
 use Rattle.derivation.specs.declared.rows.Part.TheVariants.{Ty}
 use Rattle.derivation.specs.declared.rows.Place.{Place}
-use Rattle.derivation.specs.Sets.{has}
+use Rattle.basics.specs.Sets.{has}
 use Rattle.derivation.specs.Rows.{premises, binders}
 use Rattle.derivation.specs.Judgements.{rule_at, env_at}
 use Rattle.derivation.specs.Places.{is_gate, negative}
 use Rattle.derivation.specs.Accepted.{Accepted}
-use Rattle.derivation.proofs.SetLaws.{eqb_swap}
+use Rattle.basics.proofs.SetLaws.{eqb_swap}
 use Rattle.derivation.proofs.TreeLaws.{not_so}
 use Rattle.theory.specs.Ports.{held, listed, below, width, upward, downward, next, is_place, last}
 use Rattle.theory.specs.Tokens.{is_seat}

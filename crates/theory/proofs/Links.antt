@@ -10,7 +10,7 @@ use Rattle.derivation.specs.declared.rows.Row.{Row}
 use Rattle.derivation.specs.declared.rows.Part.{Part}
 use Rattle.derivation.specs.declared.rows.Part.TheVariants.{Ty, Variable as Var}
 use Rattle.derivation.specs.declared.rows.Place.{Place}
-use Rattle.derivation.specs.Sets.{has}
+use Rattle.basics.specs.Sets.{has}
 use Rattle.derivation.specs.Trees.{atoms, positive}
 use Rattle.derivation.specs.Rows.{premises, binders}
 use Rattle.derivation.specs.Judgements.{Apart, rule_at, env_at, tree_at}

@@ -11,7 +11,7 @@ use Rattle.derivation.specs.declared.rows.Row.{Row}
 use Rattle.derivation.specs.declared.rows.Part.{Part}
 use Rattle.derivation.specs.declared.rows.Part.TheVariants.{Ty, Variable as Var}
 use Rattle.derivation.specs.declared.rows.Place.{Place}
-use Rattle.derivation.specs.Sets.{has}
+use Rattle.basics.specs.Sets.{has}
 use Rattle.basics.specs.Gates.{arity}
 use Rattle.derivation.specs.Trees.{qubit, atoms, positive, power}
 use Rattle.derivation.specs.Rows.{premises}

@@ -8,14 +8,14 @@ use Rattle.derivation.specs.declared.types.TypeEntry.{TypeEntry}
 use Rattle.derivation.specs.declared.rows.Rule.{Rule}
 use Rattle.derivation.specs.declared.rows.Rule.TheVariants.{Variable, Zero, One, Gate, Lambda, PairLambda, Apply, Pair}
 use Rattle.derivation.specs.declared.rows.Row.{Row}
-use Rattle.derivation.specs.Sets.{has}
+use Rattle.basics.specs.Sets.{has}
 use Rattle.basics.specs.Gates.{arity}
 use Rattle.derivation.specs.Trees.{Tree, qubit, arrow, pair, atoms, positive, power}
 use Rattle.derivation.specs.Rows.{premises}
 use Rattle.derivation.specs.Judgements.{Judgement, ◌⊢◌, Apart, rule_at, tree_at, judged, Infers, variable, zero_bit, one_bit, gate, abstraction, pair_abstraction, application, pairing}
 use Rattle.derivation.specs.Places.{is_bit, is_gate}
 use Rattle.derivation.specs.Accepted.{Accepted}
-use Rattle.derivation.proofs.SetLaws.{has_none, has-only, has-union, has-without}
+use Rattle.basics.proofs.SetLaws.{has_none, has-only, has-union, has-without}
 
 -- the rule of a zero or one row, and that of a gate
 pub bit-of : (rule : Rule) → is_bit rule ≡ true → (rule ≡ Zero) ⊎ (rule ≡ One)

@@ -10,7 +10,7 @@ use Rattle.derivation.specs.declared.rows.Row.{Row}
 use Rattle.derivation.specs.declared.rows.Part.{Part}
 use Rattle.derivation.specs.declared.rows.Part.TheVariants.{Ty, Variable as Var}
 use Rattle.derivation.specs.declared.rows.Place.{Place}
-use Rattle.derivation.specs.Sets.{has}
+use Rattle.basics.specs.Sets.{has}
 use Rattle.derivation.specs.Trees.{Tree, qubit, atoms}
 use Rattle.derivation.specs.Rows.{no_row}
 use Rattle.derivation.specs.Judgements.{rule_at, env_at, tree_at}

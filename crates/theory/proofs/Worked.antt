@@ -1,7 +1,7 @@
 -- Worked derivations on the machine, by computation.
 use Rattle.std.proofs.Common.{refl}
 use Rattle.derivation.specs.Format.{derivation_of, parse, cut}
-use Rattle.derivation.specs.Sets.{has, only, union, without}
+use Rattle.basics.specs.Sets.{has, only, union, without}
 use Rattle.derivation.specs.Growth.{grown}
 use Rattle.derivation.specs.Faults.{first_fault}
 use Rattle.derivation.specs.Trees.{trees}

@@ -6,7 +6,7 @@ use Rattle.basics.specs.declared.numbers.RowId.{RowId}
 use Rattle.derivation.specs.declared.rows.Rule.TheVariants.{Variable, Gate, Lambda, PairLambda, Apply, Pair}
 use Rattle.derivation.specs.declared.rows.Row.{Row}
 use Rattle.derivation.specs.declared.rows.Place.{Place}
-use Rattle.derivation.specs.Sets.{has}
+use Rattle.basics.specs.Sets.{has}
 use Rattle.basics.specs.Gates.{arity}
 use Rattle.derivation.specs.Rows.{premises, binders}
 use Rattle.derivation.specs.Judgements.{rule_at, env_at}

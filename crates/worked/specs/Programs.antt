@@ -8,7 +8,7 @@ use Rattle.derivation.specs.Examples.{bell, hx, swap, cx}
 use Rattle.derivation.specs.Format.{derivation_of}
 use Rattle.derivation.specs.Places.{given, wires, moves}
 use Rattle.derivation.specs.Rows.{zero_row}
-use Rattle.derivation.specs.Sets.{has}
+use Rattle.basics.specs.Sets.{has}
 use Rattle.theory.specs.Ports.{ends}
 use Rattle.theory.specs.Tokens.{wire_at}
 use Rattle.target.specs.Interface.{View, all_codes}

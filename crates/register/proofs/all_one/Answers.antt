@@ -2,7 +2,7 @@
 use Rattle.std.proofs.Common.{◌≡◌, ℕ, ◌+◌, ◌<◌, Bool, true, false, ◌&&◌, List, length, get_or, drop, sym, ap, ◌∙◌}
 use Rattle.std.proofs.lemmas.List.{at_drop_more, at_drop_all}
 use Rattle.basics.specs.declared.numbers.Wire.{Wire}
-use Rattle.derivation.specs.Sets.{has}
+use Rattle.basics.specs.Sets.{has}
 use Rattle.target.specs.Interface.{numbers_of}
 use Rattle.register.specs.Register.{all_one}
 use Rattle.register.proofs.all_one.Goals as goal

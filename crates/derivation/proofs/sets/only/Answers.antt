@@ -1,5 +1,5 @@
 use Rattle.std.proofs.lemmas.Nat.{one_shl}
-use Rattle.derivation.specs.Sets.{only}
+use Rattle.basics.specs.Sets.{only}
 use Rattle.derivation.proofs.sets.only.Goals as goal
 
 pub returns : goal.returns

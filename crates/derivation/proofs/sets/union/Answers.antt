@@ -1,5 +1,5 @@
 use Rattle.std.proofs.Common.{refl}
-use Rattle.derivation.specs.Sets.{union}
+use Rattle.basics.specs.Sets.{union}
 use Rattle.derivation.proofs.sets.union.Goals as goal
 
 pub returns : goal.returns

@@ -1,7 +1,7 @@
 use Rattle.std.proofs.Common.{ap}
 use lib.Bits.{bit_or}
 use Rattle.std.proofs.lemmas.Nat.{one_shl}
-use Rattle.derivation.specs.Sets.{only, union}
+use Rattle.basics.specs.Sets.{only, union}
 use Rattle.run.proofs.books.with.Goals as goal
 
 pub returns : goal.returns

@@ -1,7 +1,7 @@
 use Rattle.std.proofs.Common.{ap}
 use lib.Bits.{bit_and, bit_xor}
 use Rattle.std.proofs.lemmas.Nat.{one_shl}
-use Rattle.derivation.specs.Sets.{without}
+use Rattle.basics.specs.Sets.{without}
 use Rattle.run.proofs.books.without.Goals as goal
 
 pub returns : goal.returns

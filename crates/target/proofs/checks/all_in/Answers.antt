@@ -2,7 +2,7 @@
 use Rattle.std.proofs.Common.{◌≡◌, ℕ, ◌+◌, ◌<◌, Bool, ◌&&◌, List, length, get_or, drop, sym, ap, ◌∙◌}
 use Rattle.std.proofs.lemmas.List.{at_drop_more, at_drop_all}
 use Rattle.derivation.specs.Rows.{all_in}
-use Rattle.derivation.specs.Sets.{has, without}
+use Rattle.basics.specs.Sets.{has, without}
 use Rattle.basics.specs.declared.numbers.Wire.{Wire}
 use Rattle.target.specs.Interface.{numbers_of}
 use Rattle.target.proofs.checks.all_in.Goals as goal

@@ -2,7 +2,7 @@
 use Rattle.std.proofs.Common.{◌/◌, ◌^◌, eqb, sym, ap, ◌∙◌}
 use lib.Bits.{and_mask}
 use Rattle.std.proofs.lemmas.Bool.{le-ltb}
-use Rattle.derivation.specs.Sets.{has}
+use Rattle.basics.specs.Sets.{has}
 use Rattle.target.proofs.MaskLaws.{has_past}
 use Rattle.target.proofs.checks.has.Goals as goal
 

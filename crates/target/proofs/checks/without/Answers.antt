@@ -1,7 +1,7 @@
 use Rattle.std.proofs.Common.{sym, ap}
 use Rattle.std.proofs.lemmas.Nat.{one_shl}
 use lib.Bits.{bit_and, bit_xor}
-use Rattle.derivation.specs.Sets.{without}
+use Rattle.basics.specs.Sets.{without}
 use Rattle.target.proofs.MaskLaws.{without_past}
 use Rattle.target.proofs.checks.without.Goals as goal
 

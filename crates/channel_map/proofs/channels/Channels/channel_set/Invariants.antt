@@ -1,5 +1,5 @@
 use Rattle.std.proofs.Common.{◌≡◌, drop}
-use Rattle.derivation.specs.Sets.{union}
+use Rattle.basics.specs.Sets.{union}
 use Rattle.channel_map.specs.Channels.{channels_from, channels_of}
 use Rattle.channel_map.proofs.channels.Channels.channel_set.Given as goal
 

@@ -1,6 +1,6 @@
 -- A variable is its own environment.
 use Rattle.std.proofs.Common.{◌∙◌, [], ap}
-use Rattle.derivation.specs.Sets.{only}
+use Rattle.basics.specs.Sets.{only}
 use Rattle.derivation.specs.Rows.{step}
 use Rattle.derivation.proofs.check.Checked.rule_step.Goals as goal
 

@@ -1,6 +1,6 @@
 use Rattle.std.proofs.Common.{◌≡◌, false, unwrap_or, vec_items, ap, ◌∙◌, rules}
 use Rattle.std.specs.Option.{option_map}
-use Rattle.derivation.specs.Sets.{has}
+use Rattle.basics.specs.Sets.{has}
 use Rattle.machine.specs.declared.tables.RowFacts.{RowFacts}
 use Rattle.machine.proofs.MoveTables.{env_found}
 use Rattle.machine.proofs.machine.Machine.holds.Goals as goal

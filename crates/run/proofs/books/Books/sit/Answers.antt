@@ -2,7 +2,7 @@
 use Rattle.std.proofs.Common.{◌≡◌, cond, eqb, vec_items, sym, ◌∙◌}
 use lib.Count.{ones}
 use Rattle.std.proofs.lemmas.Bool.{cond-true, cond-false, eq-eqb, ne_eqb}
-use Rattle.derivation.specs.Sets.{union, without}
+use Rattle.basics.specs.Sets.{union, without}
 use Rattle.run.proofs.BookSteps.{sat-at}
 use Rattle.run.proofs.books.Books.sit.Goals as goal
 use Rattle.run.proofs.books.Books.sit.Goals.{then-all-seat, else-all-seat}
