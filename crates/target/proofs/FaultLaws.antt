@@ -1,5 +1,5 @@
 -- What is known of a gate that counts.
-use Rattle.std.proofs.Common.{◌≡◌, ℕ, ◌+◌, ◌^◌, ◌<◌, Bool, true, false, cond, not, eqb, leb, List, length, Ok, Err, Result, Some, None, refl, sym, ◌∙◌}
+use Rattle.std.proofs.Common.{◌≡◌, ℕ, ◌+◌, ◌^◌, ◌<◌, Bool, true, false, cond, not, eqb, leb, List, length, Ok, Err, Result, Option, Some, None, refl, sym, ◌∙◌}
 use Rattle.std.proofs.lemmas.List.{length-map}
 use Rattle.std.proofs.lemmas.Bool.{leb-false, lt-leb, and_parts, eqb-true, not-false}
 use Rattle.basics.specs.Gates.{arity}
@@ -36,6 +36,17 @@ clear taken capacity u after g ws p =
 pub no_fault : {taken : Bool} {capacity : ℕ} {u after : Usage} {g : Gate} {ws : List ℕ} → Clear taken capacity u after g ws →
     cond (not taken) (Some (NotTaken g)) (cond (not (seated u.used g ws)) (Some (WireMisuse g)) (cond (leb capacity u.count) (Some (AtCapacity g)) None)) ≡ None
 no_fault {capacity = capacity} {u = u} ok = rw (ok.takes, ok.seats, lt-leb capacity u.count ok.room) refl
+
+-- a gate that does not count has the fault that it is refused for
+refused_by : {A : Type 0} (b : Bool) (e x : Refusal) (r : Result A Refusal) (o : Option Refusal) → (Err x ≡ r → o ≡ Some x) → Err x ≡ cond b (Err e) r → cond b (Some e) o ≡ Some x
+refused_by true e x r o more p = cc
+refused_by false e x r o more p = more p
+
+pub fault_of : (taken : Bool) (capacity : ℕ) (u : Usage) (g : Gate) (ws : List ℕ) (x : Refusal) → Err x ≡ usage_applied taken capacity u g ws →
+    cond (not taken) (Some (NotTaken g)) (cond (not (seated u.used g ws)) (Some (WireMisuse g)) (cond (leb capacity u.count) (Some (AtCapacity g)) None)) ≡ Some x
+fault_of taken capacity u g ws x p =
+    refused_by (not taken) (NotTaken g) x _ _
+    (refused_by (not (seated u.used g ws)) (WireMisuse g) x _ _ (refused_by (leb capacity u.count) (AtCapacity g) x (Ok (record { used = u.used; count = u.count + 1 })) None (λ q. absurd cc))) p
 
 -- sets that begin fit the width
 begun_from : (fits : Bool) (used : ℕ) (after : Usage) → Ok after ≡ cond fits (Ok (record { used = used; count = 0 })) (Err WireSets) → (fits ≡ true) × (after ≡ record { used = used; count = 0 })
