@@ -24,7 +24,7 @@ returns g c =
           (mapped_view (table_of m.channels) (T.view last)))
           same
           (begin_by (table_of m.channels) T.begun c.args.used c.args.given c.args.ones c.width.result (T.view m.beneath) (T.view last) r
-          c.ranges.used.fits (c.width.ensures.value ∙ ap (λ (x : ChannelMap g.row.T.Denot). fitting (T.view x.beneath).width x.channels.table) (sym same)) c.in_default.ensures
+          c.ranges.used.fits (c.width.ensures.value ∙ ap (λ (x : ChannelMap g.row.T.Denot). fitting (T.view x.beneath).width x.channels.table) (sym same)) c.in_ok-check_begin.ensures
           c.channel_set-used.ensures c.channel_set-given.ensures c.channel_set-ones.ensures c.begin.ensures.obeys);
       kept =
           subst (λ (x : ChannelMap g.row.T.Denot). Kept r x (record { channels = m.channels; beneath = last })) same
