@@ -162,8 +162,3 @@ module _ (t : Table) where
       → Obeys (begin_fault (mapped_view t v) used given ones) (begun_view (mapped_begun begun) (mapped_view t v) used given ones) r (mapped_view t after)
   begin_by begun used given ones width v after r small wide none eu eg eo h =
       begin-with begun used given ones v after r small (ap (λ n. sets_fit n used given ones) (sym wide) ∙ fits-from (sets_fit width used given ones) none) (rw (eu, eg, eo) at h)
-
--- what is kept beneath is kept
-pub kept_by : {A B : Type 0} (f : A → B) (r : Result (Unit {0}) Refusal) (a b : A) → Kept r a b → Kept r (f a) (f b)
-kept_by f (Ok u) a b k = tt
-kept_by f (Err e) a b k = ap f k

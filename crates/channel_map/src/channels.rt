@@ -12,7 +12,7 @@ use target::checks::has;
 const LAST: u8 = 31;
 
 // The channel of each wire. Each of 0 to 31 stands in the table once.
-#[derive(Clone, Copy)]
+#[derive(Clone, Copy, PartialEq, Eq)]
 pub struct Channels {
     table: [u8; 32],
     ghost whole: { length table ≡ 32 },
@@ -72,7 +72,7 @@ impl Channels {
         Some(Wire(w as u8))
     }
 
-    // The channels of a set of wires.
+    // The channels of a set of wires. A loop: enumerate, filter and fold would say no less.
     pub(crate) fn channel_set(&self, wires: u32) -> u32
         ensures { result ≡ channels_of self.now.table wires }
     {
@@ -95,7 +95,8 @@ impl Channels {
             .unwrap_or(32) as u8
     }
 
-    // The channels of a gate's wires, if these are at most three and each below 32.
+    // The channels of a gate's wires, if these are at most three and each below 32; behind them stands wire 0. The
+    // memory is fixed, since apply is handed no allocator.
     pub(crate) fn seats(&self, wires: &[Wire]) -> Option<[Wire; 3]>
         ensures { MatchOption result (seatable (numbers_of wires.now) ≡ false) (λ b. (seatable (numbers_of wires.now) ≡ true) × (length b ≡ 3) × (numbers_of (take (length wires.now) b) ≡ map (channel_of self.now.table) (numbers_of wires.now))) }
     {

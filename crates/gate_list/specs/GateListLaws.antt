@@ -119,28 +119,6 @@ view_push items n used given ones g ws l e =
     ∙ ap₂ (λ (s : State) (k : ℕ). record { state = s; used = used; count = suc n; width = 32; capacity = min k 65535 })
     (state-push items n used given ones g ws l e) (length-set items n (applied_of g ws))
 
--- the wires of a record, by their number
-pub seats_none : (ws : List Wire) → length ws ≡ 0 → record { 0 = 0 } ∷ record { 0 = 0 } ∷ record { 0 = 0 } ∷ [] ≡ seats_of ws
-seats_none [] e = refl
-seats_none (v ∷ vs) e = absurd (omega arith)
-
-pub seats-one : (ws : List Wire) (d : Wire) → length ws ≡ 1 → slice_index_or ws 0 d ∷ record { 0 = 0 } ∷ record { 0 = 0 } ∷ [] ≡ seats_of ws
-seats-one [] d e = absurd (omega arith)
-seats-one (a ∷ []) d e = refl
-seats-one (a ∷ b ∷ vs) d e = absurd (omega arith)
-
-pub seats_two : (ws : List Wire) (d : Wire) → length ws ≡ 2 → slice_index_or ws 0 d ∷ slice_index_or ws 1 d ∷ record { 0 = 0 } ∷ [] ≡ seats_of ws
-seats_two [] d e = absurd (omega arith)
-seats_two (a ∷ []) d e = absurd (omega arith)
-seats_two (a ∷ b ∷ []) d e = refl
-seats_two (a ∷ b ∷ x ∷ vs) d e = absurd (omega arith)
-
-pub seats_three : (ws : List Wire) (d : Wire) → 3 ≤ length ws → slice_index_or ws 0 d ∷ slice_index_or ws 1 d ∷ slice_index_or ws 2 d ∷ [] ≡ seats_of ws
-seats_three [] d e = absurd (omega arith)
-seats_three (a ∷ []) d e = absurd (omega arith)
-seats_three (a ∷ b ∷ []) d e = absurd (omega arith)
-seats_three (a ∷ b ∷ x ∷ vs) d e = refl
-
 -- each wire
 
 pub meets_each : MeetsEach

@@ -51,7 +51,8 @@ impl Layers {
     }
 }
 
-// The greatest number of some wires.
+// The greatest number of some wires. A loop: for a chain of map and max, or a fold, it is not found that each wire that
+// the closure is handed is within the array.
 fn greatest(depth: &[u32; 32], wires: &[Wire]) -> u32
     requires { all_below 32 (numbers_of wires.now) ≡ true }
     ensures { result ≡ greatest_in depth.now (numbers_of wires.now) }

@@ -1,9 +1,9 @@
 -- What is known of a gate that counts.
-use Rattle.std.proofs.Common.{◌≡◌, ℕ, ◌+◌, ◌^◌, ◌<◌, Bool, true, false, cond, not, eqb, leb, List, length, Ok, Err, Result, Option, Some, None, refl, sym, ◌∙◌}
+use Rattle.std.proofs.Common.{◌≡◌, ℕ, ◌+◌, ◌<◌, Bool, true, false, cond, not, eqb, leb, List, length, Ok, Err, Result, Option, Some, None, refl, sym, ◌∙◌}
 use Rattle.std.proofs.lemmas.List.{length-map}
 use Rattle.std.proofs.lemmas.Bool.{leb-false, lt-leb, and_parts, eqb-true, not-false}
 use Rattle.basics.specs.Gates.{arity}
-use Rattle.derivation.specs.Rows.{all_in, all_below}
+use Rattle.derivation.specs.Rows.{all_in}
 use Rattle.basics.specs.declared.gate.Gate.{Gate}
 use Rattle.basics.specs.declared.numbers.Wire.{Wire}
 use Rattle.basics.specs.declared.refusal.Refusal.{Refusal}
@@ -11,7 +11,6 @@ use Rattle.basics.specs.declared.refusal.Refusal.TheVariants.{AtCapacity, NotTak
 use Rattle.target.specs.declared.usage.Usage.{Usage}
 use Rattle.target.specs.Interface.{numbers_of, seated, sets_fit}
 use Rattle.target.specs.Usage.{usage_applied, usage_begun}
-use Rattle.target.proofs.MaskLaws.{all_below_lem, has_below}
 
 -- a test that stands before an answer has not refused it
 not_refused : {A : Type 0} (b : Bool) (e : Refusal) (r : Result A Refusal) (x : A) → Ok x ≡ cond b (Err e) r → (b ≡ false) × (Ok x ≡ r)

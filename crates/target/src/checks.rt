@@ -26,7 +26,8 @@ fn without(set: u32, w: Wire) -> u32
     }
 }
 
-// Whether all wires are in the set, and no two are equal.
+// Whether all wires are in the set, and no two are equal. A loop, since the set shrinks on the way: try_fold with then
+// says the same in more words.
 fn all_in(set: u32, wires: &[Wire]) -> bool
     ensures { result ≡ all_in set (numbers_of wires.now) }
 {
