@@ -33,6 +33,8 @@ pub struct Register {
 }
 
 impl Register {
+    ghost use Rattle.register.specs.Held.{held};
+
     // A register with no wire in use. Wire w begins with bit w of the preset when it is given; the bits from 16 on are
     // kept and have no effect, since no such wire can be given.
     pub fn new(preset: u32) -> Register
@@ -72,7 +74,7 @@ impl Register {
     // Flips the last wire, where the bit of each wire before it is 1.
     fn flip(&mut self, wires: &[Wire])
         requires { all_below 32 (numbers_of wires.now) ≡ true }
-        ensures { holding self.new.bits self.new.phase self.new.preset ≡ flipped (numbers_of wires.now) (holding self.old.bits self.old.phase self.old.preset) }
+        ensures { held self.new ≡ flipped (numbers_of wires.now) (held self.old) }
     {
         if let Some((last, controls)) = wires.split_last() {
             if self.all_one(controls) {
@@ -84,7 +86,7 @@ impl Register {
     // Turns the phase some eighths further, where the bit of each wire is 1.
     fn turn(&mut self, eighths: u8, wires: &[Wire])
         requires { eighths < 8 }
-        ensures { holding self.new.bits self.new.phase self.new.preset ≡ turned eighths (numbers_of wires.now) (holding self.old.bits self.old.phase self.old.preset) }
+        ensures { held self.new ≡ turned eighths (numbers_of wires.now) (held self.old) }
     {
         if self.all_one(wires) {
             self.phase = (self.phase + eighths) % 8;
@@ -94,7 +96,7 @@ impl Register {
     // What a gate does to the bits and the phase.
     fn act(&mut self, gate: Gate, wires: &[Wire])
         requires { all_below 32 (numbers_of wires.now) ≡ true }
-        ensures { holding self.new.bits self.new.phase self.new.preset ≡ acted gate (numbers_of wires.now) (holding self.old.bits self.old.phase self.old.preset) }
+        ensures { held self.new ≡ acted gate (numbers_of wires.now) (held self.old) }
     {
         match gate {
             Gate::H => {}
