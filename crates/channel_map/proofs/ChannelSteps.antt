@@ -1,25 +1,20 @@
--- The steps of the loops over a table and over the wires of a gate.
-use Rattle.std.proofs.Common.{◌≡◌, ℕ, suc, ◌+◌, ◌-◌, ◌*◌, ◌%◌, ◌^◌, ◌<◌, ◌≤◌, true, false, cond, ltb, leb, List, [], ◌∷◌, ◌++◌, map, length, get_or, take, drop, set, Some, None, sym, refl, ap, ◌∙◌, ap₂, ⊎_elim, add-one, arith, below_more as each-below-more}
-use native.Mathlib.Nat.{sub-zero}
+-- The steps of the loop over a table, and what a search of a table finds.
+use Rattle.std.proofs.Common.{◌≡◌, ℕ, suc, ◌+◌, ◌*◌, ◌%◌, ◌^◌, ◌<◌, ◌≤◌, Bool, eqb, not, true, false, cond, ltb, leb, List, length, get_or, drop, Some, None, sym, refl, ap, ◌∙◌, ⊎_elim, add-one, arith}
 use lib.Bits.{bit_or}
 use lib.ListN.{length-map}
+use Rattle.std.specs.List.{position_or_len}
+use Rattle.std.specs.Option.{unwrap_or}
 use Rattle.std.proofs.lemmas.Nat.{one_shl}
-use Rattle.std.proofs.lemmas.List.{drop_all, drop_more, get_or-set_other, get_or-set_same, map_more, map_push, take_all, take_more_set}
-use Rattle.std.proofs.lemmas.Bool.{and_from, and_left, and_parts, and_right, cases_Bool, cases_lt, cond-false, cond-true, le-leb, leb-true, le-ltb, lt-leb, lt-ltb}
+use Rattle.std.proofs.lemmas.List.Recursion.{is_position_or_len}
+use Rattle.std.proofs.lemmas.List.Sums.{fails_before_first, prefix_len-le-length}
+use Rattle.std.proofs.lemmas.List.{drop_all, drop_more}
+use Rattle.std.proofs.lemmas.Bool.{both_ways, eq-eqb, ltb-false, and_parts, cases_lt, cond-false, cond-true, le-leb, leb-true, le-ltb, lt-leb, lt-ltb}
 use Rattle.basics.specs.declared.numbers.Wire.{Wire}
-use Rattle.derivation.specs.Rows.{all_below}
 use Rattle.basics.specs.Sets.{has, only, union}
 use Rattle.basics.proofs.SetLaws.{union_none}
 use Rattle.target.specs.Interface.{numbers_of}
-use Rattle.target.proofs.MaskLaws.{below_at}
-use Rattle.channel_map.specs.Channels.{channel_at, channel_of, channels_from, channels_of, fitting, seatable}
-use Rattle.channel_map.specs.ChannelLaws.{union_assoc, union-end}
-
--- a table that is filled from its first entry on
-
-pub filled_more : (f : ℕ → ℕ) (xs : List ℕ) (i : ℕ) → i < length xs → ((k : ℕ) → k < i → get_or xs k 0 ≡ f k) → (k : ℕ) → k < i + 1 → get_or (set xs i (f i)) k 0 ≡ f k
-filled_more f xs i h so_far =
-    each-below-more (λ k. get_or (set xs i (f i)) k 0 ≡ f k) i (λ k l. get_or-set_other xs i k (f i) 0 (λ e. omega arith) ∙ so_far k l) (get_or-set_same xs i (f i) 0 h)
+use Rattle.channel_map.specs.Channels.{Table, channels_from, channels_of, fitting, seatable}
+use Rattle.channel_map.specs.ChannelLaws.{shares-place, table_every, union_assoc, union-end}
 
 -- the channels of a set
 
@@ -57,68 +52,36 @@ module _ (xs : List ℕ) (m w : ℕ) where
 
 -- how many wires fit
 
-module _ (n : ℕ) (xs : List ℕ) (w : ℕ) where
-  pub fitting-here : w < length xs → n ≤ get_or xs w 0 → fitting n (drop w xs) ≡ 0
-  fitting-here h l = ap (fitting n) (drop_more xs w 0 h) ∙ cond-false (ltb (get_or xs w 0) n) _ 0 (le-ltb (get_or xs w 0) n l)
+none_past : (b : Bool) (n : ℕ) → cond b (Some n) None ≡ None → b ≡ false
+none_past true n e = absurd cc
+none_past false n e = refl
 
-  pub fitting-next : w < length xs → get_or xs w 0 < n → fitting n (drop w xs) ≡ suc (fitting n (drop (w + 1) xs))
-  fitting-next h l = ap (fitting n) (drop_more xs w 0 h) ∙ cond-true (ltb (get_or xs w 0) n) _ 0 (lt-ltb (get_or xs w 0) n l)
+-- the first wire whose channel is not below the width
+fitting_first : (n : ℕ) (xs : List ℕ) → fitting n xs ≡ position_or_len (λ c. leb n c) xs
+fitting_first n xs = is_position_or_len (fitting n) (λ c. leb n c) refl (λ c cs. ⊎_elim
+    (λ l. cond-true (ltb c n) _ _ (lt-ltb c n l) ∙ (omega arith) ∙ sym (cond-false (leb n c) _ _ (lt-leb n c l)))
+    (λ l. cond-false (ltb c n) _ _ (le-ltb c n l) ∙ sym (cond-true (leb n c) _ _ (le-leb n c l))) (cases_lt c n)) xs
 
-  pub fitting-end : length xs ≤ w → fitting n (drop w xs) ≡ 0
-  fitting-end h = ap (fitting n) (drop_all w xs h)
+pub fitting_found : (n : ℕ) (xs : List ℕ) → length xs ≡ 32 → (let p = position_or_len (λ c. leb n c) xs in unwrap_or (cond (ltb p (length xs)) (Some p) None) 32) ≡ fitting n xs
+fitting_found n xs whole =
+    let p : ℕ = position_or_len (λ c. leb n c) xs in
+    ⊎_elim
+    (λ l. ap (λ o. unwrap_or o 32) (cond-true (ltb p (length xs)) (Some p) None (lt-ltb p (length xs) l)) ∙ sym (fitting_first n xs))
+    (λ l. ap (λ o. unwrap_or o 32) (cond-false (ltb p (length xs)) (Some p) None (le-ltb p (length xs) l)) ∙ sym whole
+    ∙ omega (arith, l, prefix_len-le-length (λ c. not (leb n c)) xs) ∙ sym (fitting_first n xs))
+    (cases_lt p (length xs))
+
+-- where no entry is found, none is the channel
+pub wire_missing : (t : Table) (c : ℕ) → (let p = position_or_len (λ n. eqb n c) t.entries in cond (ltb p (length t.entries)) (Some p) None) ≡ None → 32 ≤ c
+wire_missing t c none =
+    let p : ℕ = position_or_len (λ n. eqb n c) t.entries in
+    let past : length t.entries ≤ p = ltb-false p (length t.entries) (none_past (ltb p (length t.entries)) p none) in
+    ⊎_elim
+    (λ l. let at = shares-place t.entries c (table_every t c l) in
+    absurd (both_ways (eqb (get_or t.entries at.0 0) c) (fails_before_first (λ n. eqb n c) t.entries at.0 0 (omega (arith, at.1, past))) (eq-eqb _ c at.2)))
+    (λ l. l) (cases_lt c 32)
 
 -- the seats of a gate
 
-pub channel_some : (xs : List ℕ) (w : ℕ) (c : Wire) → Some c ≡ channel_at xs w → (w < 32) × (c.0 ≡ channel_of xs w)
-channel_some xs w c e = ⊎_elim
-    (λ l. let s : Some c ≡ Some (record { 0 = channel_of xs w }) = e ∙ cond-true (ltb w 32) _ None (lt-ltb w 32 l) in
-    let q : c ≡ record { 0 = channel_of xs w } = cc in (l, ap (λ x. x.0) q))
-    (λ l. let s : Some c ≡ None = e ∙ cond-false (ltb w 32) _ None (le-ltb w 32 l) in let z : ◌≡◌ {A = ℕ} 0 1 = cc in absurd (omega arith)) (cases_lt w 32)
-
-pub channel_none : (xs : List ℕ) (w : ℕ) → None ≡ channel_at xs w → 32 ≤ w
-channel_none xs w e = ⊎_elim
-    (λ l. let s : None ≡ Some (record { 0 = channel_of xs w }) = e ∙ cond-true (ltb w 32) _ None (lt-ltb w 32 l) in let z : ◌≡◌ {A = ℕ} 0 1 = cc in absurd (omega arith))
-    (λ l. l) (cases_lt w 32)
-
-below_push : (k : ℕ) (xs : List ℕ) (x : ℕ) → all_below k xs ≡ true → x < k → all_below k (xs ++ x ∷ []) ≡ true
-below_push k [] x e l = and_from (ltb x k) true (lt-ltb x k l) refl
-below_push k (y ∷ xs) x e l = let p = and_parts (ltb y k) (all_below k xs) e in and_from (ltb y k) _ p.0 (below_push k xs x p.1 l)
-
-module _ (ws : List Wire) (i : ℕ) (d : Wire) (h : i < length ws) where
-  pub below_more : all_below 32 (numbers_of (take i ws)) ≡ true → (get_or ws i d).0 < 32 → all_below 32 (numbers_of (take (i + 1) ws)) ≡ true
-  below_more e l = ap (all_below 32) (map_more (λ w. w.0) ws i d h) ∙ below_push 32 (numbers_of (take i ws)) (get_or ws i d).0 e l
-
-  pub seats-more : (f : ℕ → ℕ) (seats : List Wire) (c : Wire) → i < length seats → c.0 ≡ f (get_or ws i d).0
-      → numbers_of (take i seats) ≡ map f (numbers_of (take i ws)) → numbers_of (take (i + 1) (set seats i c)) ≡ map f (numbers_of (take (i + 1) ws))
-  seats-more f seats c l e so_far =
-      ap numbers_of (take_more_set seats i c l) ∙ map_push (λ w. w.0) (take i seats) c
-      ∙ ap₂ (λ (xs : List ℕ) (x : ℕ). xs ++ (x ∷ [])) so_far e
-      ∙ sym (ap (map f) (map_more (λ w. w.0) ws i d h) ∙ map_push f (numbers_of (take i ws)) (get_or ws i d).0)
-
-  -- a wire over 31 has no channel
-  pub unseatable : 32 ≤ (get_or ws i d).0 → seatable (numbers_of ws) ≡ false
-  unseatable l =
-      and_right _ (all_below 32 (numbers_of ws)) (⊎_elim
-      (λ e. absurd (omega (arith, below_at 32 ws i d e h))) (λ f. f)
-      (cases_Bool (all_below 32 (numbers_of ws))))
-
-pub too_many : (ws : List Wire) → 3 < length ws → seatable (numbers_of ws) ≡ false
-too_many ws h = and_left (leb (length (numbers_of ws)) 3) _ (lt-leb (length (numbers_of ws)) 3 (omega (arith, length-map ws (λ w. w.0))))
-
-pub seats-all : (ws : List Wire) (i : ℕ) → length ws ≤ 3 → length ws ≤ i → all_below 32 (numbers_of (take i ws)) ≡ true → seatable (numbers_of ws) ≡ true
-seats-all ws i few h e =
-    and_from (leb (length (numbers_of ws)) 3) _ (le-leb (length (numbers_of ws)) 3 (omega (arith, length-map ws (λ w. w.0))))
-    (ap (λ l. all_below 32 (numbers_of l)) (sym (take_all i ws h)) ∙ e)
-
-pub seats-taken : (f : ℕ → ℕ) (ws seats : List Wire) (i : ℕ) → length ws ≤ i → i ≤ length ws
-    → numbers_of (take i seats) ≡ map f (numbers_of (take i ws)) → numbers_of (take (length ws) seats) ≡ map f (numbers_of ws)
-seats-taken f ws seats i h l e =
-    let same : length ws ≡ i = omega arith in
-    ap (λ n. numbers_of (take n seats)) same ∙ e ∙ ap (λ xs. map f (numbers_of xs)) (take_all i ws h)
-
 pub few-wires : (ws : List Wire) → seatable (numbers_of ws) ≡ true → length ws ≤ 3
 few-wires ws e = omega (arith, length-map ws (λ w. w.0), leb-true (length (numbers_of ws)) 3 (and_parts _ _ e).0)
-
--- a part of the seats from the first on, as the code takes it
-pub seats_part : (f : ℕ → ℕ) (ws seats : List Wire) → numbers_of (take (length ws) seats) ≡ map f (numbers_of ws) → numbers_of (take (length ws - 0) seats) ≡ map f (numbers_of ws)
-seats_part f ws seats e = ap (λ k. numbers_of (take k seats)) (sub-zero (length ws)) ∙ e

@@ -348,10 +348,6 @@ module _ (t : Table) where
       and_from _ _ (lt-ltb _ _ (channels_fit n used (ltb-true used _ p.0)))
       (and_from _ _ (channels_disjoint given ones q.0) (and_from _ _ (channels_within given used r.0) (channels_within ones used r.1)))
 
--- the channel of a wire, as an answer
-pub channel_at_lem : (xs : List ℕ) → length xs ≡ 32 → (w : ℕ) → w < 32 → Some (record { 0 = slice_index xs w }) ≡ channel_at xs w
-channel_at_lem xs whole w h = ap (λ c. Some (record { 0 = c })) (get_or_default xs w 0 w (omega arith)) ∙ sym (cond-true (nat_lt w 32) (Some (record { 0 = channel_of xs w })) None (lt-ltb w 32 h))
-
 -- the check of a table, entry by entry
 
 module _ (xs : List ℕ) (i : ℕ) (h : i < length xs) where

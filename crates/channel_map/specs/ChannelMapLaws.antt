@@ -129,9 +129,9 @@ module _ (t : Table) where
         → Obeys (apply_fault takes (mapped_view t v) g ws) (applied_view (mapped_applied applied) (mapped_view t v) g ws) r (mapped_view t after)
     apply-by applied g ws cs v after r e q o = apply-to applied g ws v after r e (subst (λ (l : List ℕ). Obeys (apply_fault takes v g l) (applied_view applied v g l) r after) q o)
 
-  fits-from : (b : Bool) → None ≡ cond b None (Some WireSets) → b ≡ true
+  fits-from : (b : Bool) → ◌≡◌ {A = Result (Unit {0}) Refusal} (Ok tt) (cond b (Ok tt) (Err WireSets)) → b ≡ true
   fits-from true e = refl
-  fits-from false e = let z : ◌≡◌ {A = ℕ} 0 1 = cc in absurd (omega arith)
+  fits-from false e = absurd cc
 
   -- the view after a begin, by the wires in use
   abbrev begun-used : {S : Type 0} → (ℕ → ℕ → ℕ → S → S) → ℕ → ℕ → ℕ → View S → ℕ → View (Table × S)
@@ -156,14 +156,9 @@ module _ (t : Table) where
       let z : ◌≡◌ {A = ℕ} 0 1 = cc in absurd (omega arith)
 
   pub begin_by : {S : Type 0} (begun : ℕ → ℕ → ℕ → S → S) (used given ones width : ℕ) (v after : View S) (r : Result (Unit {0}) Refusal)
-      → used < 2 ^ 32 → width ≡ fitting v.width t.entries → None ≡ cond (sets_fit width used given ones) None (Some WireSets)
+      → used < 2 ^ 32 → width ≡ fitting v.width t.entries → ◌≡◌ {A = Result (Unit {0}) Refusal} (Ok tt) (cond (sets_fit width used given ones) (Ok tt) (Err WireSets))
       → {u g o : ℕ} → u ≡ channels_of t.entries used → g ≡ channels_of t.entries given → o ≡ channels_of t.entries ones
       → Obeys (begin_fault v u g o) (begun_view begun v u g o) r after
       → Obeys (begin_fault (mapped_view t v) used given ones) (begun_view (mapped_begun begun) (mapped_view t v) used given ones) r (mapped_view t after)
   begin_by begun used given ones width v after r small wide none eu eg eo h =
       begin-with begun used given ones v after r small (ap (λ n. sets_fit n used given ones) (sym wide) ∙ fits-from (sets_fit width used given ones) none) (rw (eu, eg, eo) at h)
-
--- what is kept beneath is kept
-pub kept_by : {A B : Type 0} (f : A → B) (r : Result (Unit {0}) Refusal) (a b : A) → Kept r a b → Kept r (f a) (f b)
-kept_by f (Ok u) a b k = tt
-kept_by f (Err e) a b k = ap f k

@@ -5,87 +5,74 @@ ghost use Rattle.channel_map.specs.Channels.{channel_at, channel_of, channels_of
 
 use basics::numbers::Wire;
 use basics::refusal::Refusal;
+use std::array;
 use target::checks::has;
 
 // The last wire, and the last channel.
 const LAST: u8 = 31;
 
 // The channel of each wire. Each of 0 to 31 stands in the table once.
-#[derive(Clone, Copy)]
+#[derive(Clone, Copy, PartialEq, Eq)]
 pub struct Channels {
     table: [u8; 32],
     ghost whole: { length table ≡ 32 },
     ghost faultless: { is_some (table_fault table) ≡ false },
 }
 
-// The fault of the first entry that is over 31 or repeats an earlier one.
-fn table_fault(table: &[u8]) -> Option<Refusal>
-    ensures { result ≡ table_fault table.now }
+// Refuses the first entry that is over 31 or repeats an earlier one.
+fn check_table(table: &[u8]) -> Result<(), Refusal>
+    ensures { MatchResult result (λ ok. table_fault table.now ≡ None) (λ e. table_fault table.now ≡ Some e) }
 {
     for (i, entry) in table.iter().enumerate() {
-        if *entry > LAST || table[0..i].contains(entry) {
-            return Some(Refusal::ChannelEntry(i));
+        if *entry > LAST || table[..i].contains(entry) {
+            return Err(Refusal::ChannelEntry(i));
         }
     }
-    None
+    Ok(())
 }
 
 impl Channels {
     pub fn new(table: [u8; 32]) -> Result<Channels, Refusal>
         ensures { MatchResult result (λ c. (table_fault table ≡ None) × (c.table ≡ table)) (λ e. table_fault table ≡ Some e) }
     {
-        match table_fault(&table) {
-            Some(refusal) => Err(refusal),
-            None => Ok(Channels { table }),
-        }
+        check_table(&table)?;
+        Ok(Channels { table })
     }
 
     // Wire i on channel i.
     pub fn straight() -> Channels
         ensures { result.table ≡ up_from 0 32 }
     {
-        let mut table = [0; 32];
-        for i in 0..32 {
-            table[i as usize] = i;
+        Channels {
+            table: array::from_fn(|i| i as u8),
         }
-        Channels { table }
     }
 
     // Wire i on channel 31 - i.
     pub fn reversed() -> Channels
         ensures { result.table ≡ down_from 32 }
     {
-        let mut table = [0; 32];
-        for i in 0..32 {
-            table[i as usize] = LAST - i;
+        Channels {
+            table: array::from_fn(|i| LAST - i as u8),
         }
-        Channels { table }
     }
 
     // The channel of a wire; there are 32 wires.
     pub fn channel(&self, w: Wire) -> Option<Wire>
         ensures { result ≡ channel_at self.now.table w.0 }
     {
-        if w.0 <= LAST {
-            Some(Wire(self.table[w.0 as usize]))
-        } else {
-            None
-        }
+        self.table.get(w.0 as usize).map(|c| Wire(*c))
     }
 
     // The wire of a channel.
     pub fn wire(&self, c: Wire) -> Option<Wire>
         ensures { MatchOption result (32 ≤ c.0) (λ w. channel_at self.now.table w.0 ≡ Some c) }
     {
-        for (w, channel) in self.table.iter().enumerate() {
-            if *channel == c.0 {
-                return Some(Wire(w as u8));
-            }
-        }
-        None
+        let w = self.table.iter().position(|channel| *channel == c.0)?;
+        Some(Wire(w as u8))
     }
 
-    // The channels of a set of wires.
+    // The channels of a set of wires. A loop: enumerate, filter and fold would say no less.
     pub(crate) fn channel_set(&self, wires: u32) -> u32
         ensures { result ≡ channels_of self.now.table wires }
     {
@@ -102,25 +89,23 @@ impl Channels {
     pub(crate) fn fitting(&self, width: u8) -> u8
         ensures { result ≡ fitting_below width self.now.table }
     {
-        for (w, channel) in self.table.iter().enumerate() {
-            if *channel >= width {
-                return w as u8;
-            }
-        }
-        32
+        self.table
+            .iter()
+            .position(|channel| *channel >= width)
+            .unwrap_or(32) as u8
     }
 
-    // The channels of a gate's wires, if these are at most three and each below 32.
+    // The channels of a gate's wires, if these are at most three and each below 32; behind them stands wire 0. The
+    // memory is fixed, since apply is handed no allocator.
     pub(crate) fn seats(&self, wires: &[Wire]) -> Option<[Wire; 3]>
         ensures { MatchOption result (seatable (numbers_of wires.now) ≡ false) (λ b. (seatable (numbers_of wires.now) ≡ true) × (length b ≡ 3) × (numbers_of (take (length wires.now) b) ≡ map (channel_of self.now.table) (numbers_of wires.now))) }
     {
-        if wires.len() > 3 {
-            return None;
+        match wires {
+            [] => Some([Wire(0); 3]),
+            [a] => Some([self.channel(*a)?, Wire(0), Wire(0)]),
+            [a, b] => Some([self.channel(*a)?, self.channel(*b)?, Wire(0)]),
+            [a, b, c] => Some([self.channel(*a)?, self.channel(*b)?, self.channel(*c)?]),
+            _ => None,
         }
-        let mut seats = [Wire(0); 3];
-        for (i, w) in wires.iter().enumerate() {
-            seats[i] = self.channel(*w)?;
-        }
-        Some(seats)
     }
 }

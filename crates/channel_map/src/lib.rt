@@ -12,7 +12,7 @@ use crate::channels::Channels;
 use basics::gate::Gate;
 use basics::numbers::Wire;
 use basics::refusal::Refusal;
-use target::checks::begin_fault;
+use target::checks::check_begin;
 use target::interface::Target;
 
 // Each wire of the map is one channel of the target beneath.
@@ -40,21 +40,21 @@ impl<T> ChannelMap<T> {
 impl<T: Target> Target for ChannelMap<T> {
     const CODES: u16 = T::CODES;
 
-    ghost State = { Table × T.Target.State };
+    ghost CODES = { T.CODES };
 
-    ghost view = { λ m. mapped_view (record { entries = m.channels.table; whole = m.channels.whole; faultless = m.channels.faultless }) (T.Target.view m.beneath) };
+    ghost State = { Table × T.State };
 
-    ghost taken = { T.Target.taken };
+    ghost view = { λ m. mapped_view (record { entries = m.channels.table; whole = m.channels.whole; faultless = m.channels.faultless }) (T.view m.beneath) };
 
-    ghost begun = { mapped_begun T.Target.begun };
+    ghost taken = { T.taken };
 
-    ghost applied = { mapped_applied T.Target.applied };
+    ghost begun = { mapped_begun T.begun };
 
-    ghost commutes = { map_commutes T.Target.taken T.Target.applied T.Target.commutes };
+    ghost applied = { mapped_applied T.applied };
 
-    fn takes(gate: Gate) -> bool {
-        T::takes(gate)
-    }
+    ghost commutes = { map_commutes T.taken T.applied T.commutes };
+
+    ghost coded = { T.coded };
 
     // The wires from 0 on whose channels the target beneath has room for.
     fn width(&mut self) -> u8 {
@@ -68,9 +68,7 @@ impl<T: Target> Target for ChannelMap<T> {
 
     // A wire at or above the width can have a channel below the width beneath, so the map checks the sets itself.
     fn begin(&mut self, used: u32, given: u32, ones: u32) -> Result<(), Refusal> {
-        if let Some(refusal) = begin_fault(self.width(), used, given, ones) {
-            return Err(refusal);
-        }
+        check_begin(self.width(), used, given, ones)?;
         let used = self.channels.channel_set(used);
         let given = self.channels.channel_set(given);
         let ones = self.channels.channel_set(ones);
@@ -79,7 +77,7 @@ impl<T: Target> Target for ChannelMap<T> {
 
     fn apply(&mut self, gate: Gate, wires: &[Wire]) -> Result<(), Refusal> {
         match self.channels.seats(wires) {
-            Some(seats) => self.beneath.apply(gate, &seats[0..wires.len()]),
+            Some(seats) => self.beneath.apply(gate, &seats[..wires.len()]),
             None => Err(if T::takes(gate) {
                 Refusal::WireMisuse(gate)
             } else {

@@ -1,19 +1,19 @@
 -- Laws of gate lists: a begin empties them, a further record is met by the wires of its gate, and gates without a common wire commute.
-use Rattle.std.specs.Prelude.{◌≡◌, ℕ, zero, suc, ◌+◌, ◌<◌, ◌≤◌, min, Bool, true, false, cond, not, List, [], ◌∷◌, ◌++◌, map, length, get_or, take, replicate, Some, None, ◌≢◌, nat_le, slice_index_or, slice_set, refl}
-use Rattle.std.proofs.Common.{sym, ◌∙◌, ap, ap₂, append-nil, add-zero, zero-add, add-one, arith}
-use Rattle.std.specs.Option.{option_map}
+use Rattle.std.specs.Prelude.{◌≡◌, ℕ, zero, suc, ◌+◌, ◌<◌, ◌≤◌, min, Bool, true, false, cond, List, [], ◌∷◌, ◌++◌, map, length, get_or, take, replicate, is_some, Option, Some, None, ◌≢◌, nat_lt, slice_index_or, slice_set, refl}
+use Rattle.std.proofs.Common.{Bor, sym, ◌∙◌, ap, ap₂, append-nil, add-zero, zero-add, add-one, arith}
+use Rattle.std.specs.Option.{IfSome, option_copied, option_map}
 use Rattle.std.specs.List.{slice_get}
 use Rattle.std.proofs.lemmas.List.Elements.{filter-append}
-use Rattle.std.proofs.lemmas.List.{take_more_set, take-map, take-take, take_at, map_push, get_or-take, length-set, length-take-le}
-use Rattle.std.proofs.lemmas.Option.{slice_get_read, slice_get_past}
+use Rattle.std.proofs.lemmas.List.{take_more_set, take-map, take-take, take_at, map_push, length-set}
+use Rattle.std.proofs.lemmas.Bool.{ltb-false, ltb-true}
+use Rattle.std.proofs.lemmas.Option.{slice_get-map, slice_get_past, slice_get_read}
 use Rattle.basics.specs.declared.gate.Gate.{Gate}
 use Rattle.basics.specs.declared.numbers.Wire.{Wire}
-use Rattle.basics.specs.declared.refusal.Refusal.TheVariants.{WireMisuse, AtCapacity, NotTaken}
 use Rattle.basics.specs.Gates.{arity}
-use Rattle.target.specs.Interface.{numbers_of, seated, apply_fault, applied_view, shares, apart_from, all_codes}
+use Rattle.target.specs.Interface.{numbers_of, applied_view, shares, apart_from}
 use Rattle.target.proofs.WireLaws.{apart-wires, arity_few}
 use Rattle.gate_list.specs.declared.Applied.{Applied}
-use Rattle.gate_list.specs.GateList.{Met, State, met_of, seats_of, applied_of, recorded, meetings, by_wire, meets, emptied, lengthened, state_of, room, list_view, MeetsEach, MetByRecords}
+use Rattle.gate_list.specs.GateList.{Met, State, met_of, seats_of, applied_of, recorded, meetings, by_wire, meets, emptied, lengthened, state_of, list_view, MeetsEach, MetByRecords}
 
 -- no gate, no meeting
 pub none_by_wire : (w n : ℕ) → by_wire w n [] ≡ replicate n []
@@ -102,29 +102,15 @@ swaps s f g vs ws h =
     ap (λ (k : List (List Met)). record { met = k; used = s.used; given = s.given; ones = s.ones })
     (meets-swap (record { gate = f; wires = vs }) (record { gate = g; wires = ws }) h 0 s.met)
 
--- record i of the first n
-pub nth-within : (items : List Applied) (n i : ℕ) (x : Applied) → i < n → n ≤ length items → x ≡ slice_index_or items i x → Some x ≡ slice_get (take n items) i
-nth-within items n i x l le e =
-    sym (slice_get_read (take n items) n i x (sym (length-take-le n items le)) l (e ∙ sym (get_or-take n items i x l)))
+-- what a look-up finds is the element, if there is one
+pub looked_up : {X : Type 0} (xs : List X) (i : ℕ) (found : Option (Bor X)) → is_some found ≡ nat_lt i (length xs) → IfSome found (λ x. x.now ≡ slice_index_or xs i x.now) → option_copied found ≡ slice_get xs i
+looked_up xs i None h e = sym (slice_get_past xs i (ltb-false i (length xs) (sym h)))
+looked_up xs i (Some x) h e = sym (slice_get_read xs (length xs) i x.now refl (ltb-true i (length xs) (sym h)) e)
 
-pub nth_beyond : (items : List Applied) (n i : ℕ) → n ≤ length items → n ≤ i → None ≡ slice_get (take n items) i
-nth_beyond items n i le l = sym (slice_get_past (take n items) i (simp (length-take-le n items le) l))
-
--- the same of the gates
-nth-map : {A B : Type 0} (f : A → B) (xs : List A) (i : ℕ) → option_map f (slice_get xs i) ≡ slice_get (map f xs) i
-nth-map f [] i = refl
-nth-map f (x ∷ xs) zero = refl
-nth-map f (x ∷ xs) (suc i) = nth-map f xs i
-
+-- record i of the first n, as a gate
 pub nth-recorded : (items : List Applied) (n i : ℕ) → option_map met_of (slice_get (take n items) i) ≡ slice_get (recorded items n) i
 unfolding recorded
-nth-recorded items n i = nth-map met_of (take n items) i
-
--- the checks of a gate find no fault, given what they know of the list
-pub no_apply_fault : (items : List Applied) (n used given ones : ℕ) (g : Gate) (ws : List Wire) (taken : Bool) (most : ℕ) → taken ≡ all_codes g → most ≡ room items → None ≡ cond (not taken) (Some (NotTaken g)) (cond (not (seated used g (numbers_of ws))) (Some (WireMisuse g)) (cond (nat_le most n) (Some (AtCapacity g)) None)) → apply_fault all_codes (list_view items n used given ones) g (numbers_of ws) ≡ None
-no_apply_fault items n used given ones g ws taken most t m h =
-    ap₂ (λ (b : Bool) (k : ℕ). cond (not b) (Some (NotTaken g)) (cond (not (seated used g (numbers_of ws))) (Some (WireMisuse g)) (cond (nat_le k n) (Some (AtCapacity g)) None))) (sym t) (sym m)
-    ∙ sym h
+nth-recorded items n i = sym (slice_get-map met_of (take n items) i)
 
 -- one more record changes what is seen of the list by its gate
 pub view_push : (items : List Applied) (n used given ones : ℕ) (g : Gate) (ws : List Wire) → n < length items → length ws ≡ arity g → list_view (slice_set items n (applied_of g ws)) (n + 1) used given ones ≡ applied_view lengthened (list_view items n used given ones) g (numbers_of ws)
@@ -132,28 +118,6 @@ view_push items n used given ones g ws l e =
     ap (λ k. list_view (slice_set items n (applied_of g ws)) k used given ones) (add-one n)
     ∙ ap₂ (λ (s : State) (k : ℕ). record { state = s; used = used; count = suc n; width = 32; capacity = min k 65535 })
     (state-push items n used given ones g ws l e) (length-set items n (applied_of g ws))
-
--- the wires of a record, by their number
-pub seats_none : (ws : List Wire) → length ws ≡ 0 → record { 0 = 0 } ∷ record { 0 = 0 } ∷ record { 0 = 0 } ∷ [] ≡ seats_of ws
-seats_none [] e = refl
-seats_none (v ∷ vs) e = absurd (omega arith)
-
-pub seats-one : (ws : List Wire) (d : Wire) → length ws ≡ 1 → slice_index_or ws 0 d ∷ record { 0 = 0 } ∷ record { 0 = 0 } ∷ [] ≡ seats_of ws
-seats-one [] d e = absurd (omega arith)
-seats-one (a ∷ []) d e = refl
-seats-one (a ∷ b ∷ vs) d e = absurd (omega arith)
-
-pub seats_two : (ws : List Wire) (d : Wire) → length ws ≡ 2 → slice_index_or ws 0 d ∷ slice_index_or ws 1 d ∷ record { 0 = 0 } ∷ [] ≡ seats_of ws
-seats_two [] d e = absurd (omega arith)
-seats_two (a ∷ []) d e = absurd (omega arith)
-seats_two (a ∷ b ∷ []) d e = refl
-seats_two (a ∷ b ∷ x ∷ vs) d e = absurd (omega arith)
-
-pub seats_three : (ws : List Wire) (d : Wire) → 3 ≤ length ws → slice_index_or ws 0 d ∷ slice_index_or ws 1 d ∷ slice_index_or ws 2 d ∷ [] ≡ seats_of ws
-seats_three [] d e = absurd (omega arith)
-seats_three (a ∷ []) d e = absurd (omega arith)
-seats_three (a ∷ b ∷ []) d e = absurd (omega arith)
-seats_three (a ∷ b ∷ x ∷ vs) d e = refl
 
 -- each wire
 

@@ -7,31 +7,32 @@ ghost use Rattle.std.specs.Prelude.{◌≡◌, ◌≤◌, take};
 ghost use Rattle.std.specs.Option.{option_map};
 ghost use Rattle.std.specs.List.{slice_get};
 ghost use Rattle.target.specs.Interface.{all_codes};
+ghost use Rattle.target.proofs.CodeLaws.{all_coded};
 ghost use Rattle.gate_list.specs.GateList.{State as ListState, emptied, lengthened, list_view, met_of, recorded, room as room_of, seats_of};
 ghost use Rattle.gate_list.specs.GateListLaws.{swaps};
 
 use basics::gate::Gate;
 use basics::numbers::Wire;
 use basics::refusal::Refusal;
-use target::checks::{apply_fault, begin_fault};
 use target::interface::Target;
+use target::usage::Usage;
 
 // A gate with its wires in the order of its seats; behind them stands wire 0.
-#[derive(Clone, Copy)]
+#[derive(Clone, Copy, PartialEq, Eq)]
 pub struct Applied {
     pub gate: Gate,
     pub wires: [Wire; 3],
 }
 
-// The records that the maker handed over. The first of them, as many as count says, hold the gates since begin.
+// The records that the maker handed over. The first of them, as many as the usage counts, hold the gates since begin.
+// A count beside them, and no pushes: begin and apply are handed no allocator, so the memory is the maker's.
 #[derive(Drop)]
 pub struct GateList {
     records: Vec<Applied>,
-    count: u32,
-    used: u32,
+    usage: Usage,
     given: u32,
     ones: u32,
-    ghost few: { count ≤ room_of records.items },
+    ghost few: { usage.count ≤ room_of records.items },
 }
 
 // The wires of a record: these, and then wire 0. No gate has more than three.
@@ -50,15 +51,14 @@ impl GateList {
     // A list that writes into these records; no wire is in use.
     pub fn new(records: Vec<Applied>) -> GateList
         ensures items { result.records.items ≡ records.items }
-        ensures count { result.count ≡ 0 }
-        ensures used { result.used ≡ 0 }
+        ensures count { result.usage.count ≡ 0 }
+        ensures used { result.usage.used ≡ 0 }
         ensures given { result.given ≡ 0 }
         ensures ones { result.ones ≡ 0 }
     {
         GateList {
             records,
-            count: 0,
-            used: 0,
+            usage: Usage { used: 0, count: 0 },
             given: 0,
             ones: 0,
         }
@@ -66,23 +66,19 @@ impl GateList {
 
     // Record i of those since begin; from their number on there is none.
     pub fn record(&mut self, i: usize) -> Option<Applied>
-        ensures value { result ≡ slice_get (take self.old.count self.old.records.items) i }
-        ensures met { option_map met_of result ≡ slice_get (recorded self.old.records.items self.old.count) i }
+        ensures value { result ≡ slice_get (take self.old.usage.count self.old.records.items) i }
+        ensures met { option_map met_of result ≡ slice_get (recorded self.old.records.items self.old.usage.count) i }
         ensures same { self.new ≡ self.old }
     {
-        if i < self.count as usize {
-            Some(self.records[i])
-        } else {
-            None
-        }
+        self.records[..self.usage.count as usize].get(i).copied()
     }
 
     // The number of gates since begin.
     pub fn count(&mut self) -> u32
-        ensures value { result ≡ self.old.count }
+        ensures value { result ≡ self.old.usage.count }
         ensures same { self.new ≡ self.old }
     {
-        self.count
+        self.usage.count
     }
 
     // How many gates the records take.
@@ -96,9 +92,11 @@ impl GateList {
 impl Target for GateList {
     const CODES: u16 = 0b1_1111_1110;
 
+    ghost CODES = { 510 };
+
     ghost State = { ListState };
 
-    ghost view = { λ t. list_view t.records.items t.count t.used t.given t.ones };
+    ghost view = { λ t. list_view t.records.items t.usage.count t.usage.used t.given t.ones };
 
     ghost taken = { all_codes };
 
@@ -108,9 +106,7 @@ impl Target for GateList {
 
     ghost commutes = { λ s used f g vs ws tf tg sf sg apart. swaps s f g vs ws apart };
 
-    fn takes(gate: Gate) -> bool {
-        (Self::CODES >> gate.code()) & 1 == 1
-    }
+    ghost coded = { all_coded };
 
     fn width(&mut self) -> u8 {
         32
@@ -121,33 +117,21 @@ impl Target for GateList {
     }
 
     fn begin(&mut self, used: u32, given: u32, ones: u32) -> Result<(), Refusal> {
-        if let Some(fault) = begin_fault(32, used, given, ones) {
-            return Err(fault);
-        }
-        self.count = 0;
-        self.used = used;
+        self.usage = Usage::begun(32, used, given, ones)?;
         self.given = given;
         self.ones = ones;
         Ok(())
     }
 
     fn apply(&mut self, gate: Gate, wires: &[Wire]) -> Result<(), Refusal> {
-        let room = self.room();
-        if let Some(fault) = apply_fault(
-            Self::takes(gate),
-            self.used,
-            self.count,
-            room,
-            gate,
-            wires,
-        ) {
-            return Err(fault);
-        }
-        self.records[self.count as usize] = Applied {
+        let usage = self
+            .usage
+            .applied(Self::takes(gate), self.room(), gate, wires)?;
+        self.records[self.usage.count as usize] = Applied {
             gate,
             wires: seats(wires),
         };
-        self.count += 1;
+        self.usage = usage;
         Ok(())
     }
 }

@@ -7,13 +7,14 @@ ghost use Rattle.std.specs.Prelude.{◌≡◌, ℕ, ◌≤◌, true, List, repli
 ghost use Rattle.derivation.specs.Rows.{all_below};
 ghost use Rattle.target.specs.Interface.{all_codes, numbers_of};
 ghost use Rattle.layers.specs.Layers.{fresh, greatest as greatest_in, layered, number_of, set_all as set_in};
+ghost use Rattle.target.proofs.CodeLaws.{all_coded};
 ghost use Rattle.layers.specs.LayersLaws.{layered_commutes};
 
 use basics::gate::Gate;
 use basics::numbers::Wire;
 use basics::refusal::Refusal;
-use target::checks::{apply_fault, begin_fault};
 use target::interface::Target;
+use target::usage::Usage;
 
 const WIDTH: u8 = 32;
 
@@ -23,23 +24,21 @@ const CAPACITY: u32 = 65_535;
 #[derive(Drop)]
 pub struct Layers {
     depth: [u32; 32],
-    used: u32,
-    count: u32,
-    ghost few: { count ≤ 65535 },
-    ghost shallow: { (i : ℕ) → slice_index depth i ≤ count },
+    usage: Usage,
+    ghost few: { usage.count ≤ 65535 },
+    ghost shallow: { (i : ℕ) → slice_index depth i ≤ usage.count },
 }
 
 impl Layers {
     // No wire is in use, and no gate was applied.
     pub fn new() -> Layers
         ensures depth { result.depth ≡ replicate 32 0 }
-        ensures used { result.used ≡ 0 }
-        ensures count { result.count ≡ 0 }
+        ensures used { result.usage.used ≡ 0 }
+        ensures count { result.usage.count ≡ 0 }
     {
         Layers {
             depth: [0; 32],
-            used: 0,
-            count: 0,
+            usage: Usage { used: 0, count: 0 },
         }
     }
 
@@ -48,15 +47,12 @@ impl Layers {
         ensures value { result ≡ number_of self.old.depth w.0 }
         ensures same { self.new ≡ self.old }
     {
-        if w.0 < WIDTH {
-            Some(self.depth[w.0 as usize])
-        } else {
-            None
-        }
+        self.depth.get(w.0 as usize).copied()
     }
 }
 
-// The greatest number of some wires.
+// The greatest number of some wires. A loop: for a chain of map and max, or a fold, it is not found that each wire that
+// the closure is handed is within the array.
 fn greatest(depth: &[u32; 32], wires: &[Wire]) -> u32
     requires { all_below 32 (numbers_of wires.now) ≡ true }
     ensures { result ≡ greatest_in depth.now (numbers_of wires.now) }
@@ -81,9 +77,11 @@ fn set_all(depth: &mut [u32; 32], wires: &[Wire], layer: u32)
 impl Target for Layers {
     const CODES: u16 = 0b1_1111_1110;
 
+    ghost CODES = { 510 };
+
     ghost State = { List ℕ };
 
-    ghost view = { λ t. record { state = t.depth; used = t.used; count = t.count; width = 32; capacity = 65535 } };
+    ghost view = { λ t. record { state = t.depth; used = t.usage.used; count = t.usage.count; width = 32; capacity = 65535 } };
 
     ghost taken = { all_codes };
 
@@ -93,9 +91,7 @@ impl Target for Layers {
 
     ghost commutes = { λ s used f g vs ws takes-f takes-g seated-f seated-g apart. layered_commutes f g s vs ws apart };
 
-    fn takes(gate: Gate) -> bool {
-        (Self::CODES >> gate.code()) & 1 == 1
-    }
+    ghost coded = { all_coded };
 
     fn width(&mut self) -> u8 {
         WIDTH
@@ -106,29 +102,18 @@ impl Target for Layers {
     }
 
     fn begin(&mut self, used: u32, given: u32, ones: u32) -> Result<(), Refusal> {
-        if let Some(refusal) = begin_fault(WIDTH, used, given, ones) {
-            return Err(refusal);
-        }
+        self.usage = Usage::begun(WIDTH, used, given, ones)?;
         self.depth = [0; 32];
-        self.used = used;
-        self.count = 0;
         Ok(())
     }
 
     fn apply(&mut self, gate: Gate, wires: &[Wire]) -> Result<(), Refusal> {
-        if let Some(refusal) = apply_fault(
-            Self::takes(gate),
-            self.used,
-            self.count,
-            CAPACITY,
-            gate,
-            wires,
-        ) {
-            return Err(refusal);
-        }
+        let usage = self
+            .usage
+            .applied(Self::takes(gate), CAPACITY, gate, wires)?;
         let layer = greatest(&self.depth, wires) + 1;
         set_all(&mut self.depth, wires, layer);
-        self.count += 1;
+        self.usage = usage;
         Ok(())
     }
 }

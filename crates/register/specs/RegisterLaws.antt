@@ -1,6 +1,7 @@
 -- Laws of the bit register.
 use Rattle.std.specs.Prelude.{◌≡◌, ℕ, zero, suc, ◌+◌, ◌*◌, ◌/◌, ◌%◌, ◌^◌, ◌<◌, Bool, true, false, cond, not, ◌&&◌, ◌||◌, List, [], ◌∷◌, ◌++◌, ◌==◌, bit_and, bit_or, bit_xor, nat_eq, nat_lt, refl}
 use Rattle.std.proofs.Common.{sym, ◌∙◌, ap, ap₂, arith}
+use Rattle.std.specs.List.{list_all}
 use Rattle.std.specs.Int.Bits.{xor_assoc}
 use Rattle.std.proofs.lemmas.Nat.{one_shl, mod_below, xor_shr, xor_mod, xor_comm}
 use Rattle.std.proofs.lemmas.Bool.{and_parts, cond-false, eqb-true, ltb-true, true≢false}
@@ -10,7 +11,7 @@ use Rattle.basics.specs.declared.gate.Gate.TheVariants.{H, S, T, X, Z, Cx, Cz, C
 use Rattle.derivation.specs.Rows.{all_below}
 use Rattle.basics.specs.Sets.{has, only, union}
 use Rattle.basics.proofs.SetLaws.{has_none, has-only, has-union, eqb_swap}
-use Rattle.target.specs.Interface.{apart_from, disjoint, numbers_of, shares, within, Commutes}
+use Rattle.target.specs.Interface.{apart_from, disjoint, numbers_of, shares, within, Coded, Commutes}
 use Rattle.target.proofs.MaskLaws.{has-and}
 use Rattle.target.proofs.WireLaws.{apart-swap, first-apart, not_shared}
 use Rattle.register.specs.Laws.{CxCopies}
@@ -19,6 +20,11 @@ use Rattle.register.specs.Register.{Contents, FlipsOne, PreparesEach, acted, all
 cond-and : {X : Type 0} (a b : Bool) (x y : X) → cond a (cond b x y) y ≡ cond (a && b) x y
 cond-and true b x y = refl
 cond-and false b x y = refl
+
+-- all wires pass the test
+pub all_one-list : (bits : ℕ) (ws : List Wire) → list_all (λ w. has bits w.0) ws ≡ all_one bits (numbers_of ws)
+all_one-list bits [] = refl
+all_one-list bits (w ∷ ws) = ap (λ b. has bits w.0 && b) (all_one-list bits ws)
 
 -- the wires before the last are controls
 flip_split : (bits : ℕ) (cs : List Wire) (w : Wire) → flip_last bits (numbers_of (cs ++ w ∷ [])) ≡ cond (all_one bits (numbers_of cs)) (bit_xor bits (only w.0)) bits
@@ -174,6 +180,18 @@ acted_commutes s used f g vs ws tf tg sf sg h =
     acted_is f vs (acted g ws s) ∙ ap (done (act f) vs) (acted_is g ws s)
     ∙ done-swap (act f) (act g) vs ws s h
     ∙ sym (acted_is g ws (acted f vs s) ∙ ap (done (act g) ws) (acted_is f vs s))
+
+-- the codes that are taken, as a set
+pub all_but_h_coded : Coded 508 takes_all_but_h
+unfolding has
+all_but_h_coded H = refl
+all_but_h_coded S = refl
+all_but_h_coded T = refl
+all_but_h_coded X = refl
+all_but_h_coded Z = refl
+all_but_h_coded Cx = refl
+all_but_h_coded Cz = refl
+all_but_h_coded Ccx = refl
 
 -- begin, at each wire
 

@@ -1,3 +1,4 @@
+pub mod CodeLaws
 pub mod FaultLaws
 pub mod MaskLaws
 pub mod WireLaws

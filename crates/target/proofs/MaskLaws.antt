@@ -1,7 +1,7 @@
 -- Sets as masks of k bits: no number from k on is in such a set, and a mask fits k bits if nothing is left of it after a shift by k.
 use Rattle.std.proofs.Common.{◌≡◌, ℕ, zero, suc, ◌/◌, ◌%◌, ◌^◌, ◌<◌, ◌≤◌, true, false, ◌&&◌, eqb, ltb, List, [], ◌∷◌, length, get_or, sym, refl, ap, ◌∙◌, ⊎_elim, lt_of_lt_of_le, one-mul, arith, pow_mono}
 use native.Mathlib.Nat.{div-eq_of_lt}
-use lib.Bits.{bit_and, bit_xor, and_comm, and_mod, and_shifted, and_shr, xor_zero_r}
+use lib.Bits.{bit_and, bit_xor, and_comm, and_mask, and_mod, and_shifted, and_shr, xor_zero_r}
 use Rattle.std.proofs.lemmas.Nat.{pow_pos, le-div, mod_below}
 use Rattle.std.proofs.lemmas.List.{get_or-map, length-map}
 use Rattle.std.proofs.lemmas.Bool.{cases_lt, lt-ltb, le-ltb, eq-eqb, ne_eqb, and_parts, and_from, both_ways}
@@ -11,6 +11,11 @@ use Rattle.derivation.proofs.RowLaws.{below_from_lem}
 use Rattle.basics.proofs.SetLaws.{has-without}
 use Rattle.basics.specs.declared.numbers.Wire.{Wire}
 use Rattle.target.specs.Interface.{numbers_of}
+
+-- a shift and a mask read one bit
+pub bit-read : (m x : ℕ) → eqb (bit_and (m / 2 ^ x) 1) 1 ≡ has m x
+unfolding has
+bit-read m x = ap (λ n. eqb n 1) (and_mask (m / 2 ^ x) 1)
 
 module _ (k m x : ℕ) (fits : m < 2 ^ k) (past : k ≤ x) where
   below_power : m < 2 ^ x

@@ -4,8 +4,9 @@ use Rattle.basics.specs.declared.gate.Gate.{Gate}
 use Rattle.basics.specs.declared.numbers.Wire.{Wire}
 use Rattle.basics.specs.declared.refusal.Refusal.{Refusal}
 use Rattle.basics.specs.declared.refusal.Refusal.TheVariants.{WireMisuse, AtCapacity, NotTaken, WireSets}
-use Rattle.basics.specs.Gates.{arity}
+use Rattle.basics.specs.Gates.{arity, code}
 use Rattle.derivation.specs.Rows.{all_in}
+use Rattle.basics.specs.Sets.{has}
 
 -- what can be told of a target with states in S: its state, the set of wires in use, the gates applied since begin, its width and its capacity
 pub record View (S : Type 0) : Type 0 where
@@ -76,6 +77,10 @@ Commutes {S} takes applied =
     (s : S) (used : ℕ) (f g : Gate) (vs ws : List ℕ) →
     takes f ≡ true → takes g ≡ true → seated used f vs ≡ true → seated used g ws ≡ true → apart_from vs ws ≡ true →
     applied f vs (applied g ws s) ≡ applied g ws (applied f vs s)
+
+-- a set of codes has those of the gates that are taken, and of no other gate
+abbrev pub Coded : ℕ → (Gate → Bool) → Type 0
+Coded codes takes = (g : Gate) → has codes (code g) ≡ takes g
 
 -- a kind that takes every gate
 abbrev pub all_codes : Gate → Bool

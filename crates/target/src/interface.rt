@@ -1,7 +1,7 @@
 // The interface of a target.
 ghost use Rattle.std.specs.Prelude.{◌≡◌, ℕ, Bool, List};
 ghost use Rattle.basics.specs.declared.gate.Gate.{Gate};
-ghost use Rattle.target.specs.Interface.{Commutes, Kept, Obeys, View, applied_view, apply_fault, begin_fault, begun_view, numbers_of};
+ghost use Rattle.target.specs.Interface.{Coded, Commutes, Kept, Obeys, View, applied_view, apply_fault, begin_fault, begun_view, numbers_of};
 
 use basics::gate::Gate;
 use basics::numbers::Wire;
@@ -12,6 +12,8 @@ use basics::refusal::Refusal;
 pub trait Target {
     // The gate codes that the kind takes, as a set: bit c stands for code c.
     const CODES: u16;
+
+    ghost CODES: { ℕ };
 
     ghost State: { Type 0 };
 
@@ -25,7 +27,10 @@ pub trait Target {
 
     // Whether the kind takes a gate.
     fn takes(gate: Gate) -> bool
-        ensures { result ≡ taken gate };
+        ensures { result ≡ taken gate }
+    {
+        (Self::CODES >> gate.code()) & 1 == 1
+    }
 
     // How many wires the target has room for.
     fn width(&mut self) -> u8
@@ -48,4 +53,6 @@ pub trait Target {
         ensures kept { Kept result self.old self.new };
 
     ghost commutes: { Commutes taken applied };
+
+    ghost coded: { Coded CODES taken };
 }

@@ -1,19 +1,12 @@
--- The loop over a table: the first channel that is not below the width ends it.
-use Rattle.std.proofs.Common.{arith}
-use Rattle.channel_map.proofs.ChannelSteps.{fitting-end, fitting-here, fitting-next}
+use Rattle.std.proofs.Common.{nat_le, unwrap_or, ap, ◌∙◌, rules, tests}
+use Rattle.std.proofs.lemmas.Iterator.{YieldsList-from_slice}
+use Rattle.std.proofs.lemmas.Iterator.Search.{position_from_yields_List}
+use Rattle.channel_map.proofs.ChannelSteps.{fitting_found}
 use Rattle.channel_map.proofs.channels.Channels.fitting.Goals as goal
-
-pub returns-then-channel-width : goal.returns-then-channel-width
-returns-then-channel-width c =
-    let t = c.args.self.now in
-    omega (arith, c.loop-w.invariant, fitting-here c.args.width t.table c.loop-w.w (omega (arith, t.whole)) c.if-channel-width.true)
-
-pub loop-w-preserved : goal.loop-w-preserved
-loop-w-preserved c =
-    let t = c.args.self.now in
-    omega (arith, c.loop-w.invariant, fitting-next c.args.width t.table c.loop-w.w (omega (arith, t.whole)) c.if-channel-width.false)
 
 pub returns : goal.returns
 returns c =
     let t = c.args.self.now in
-    omega (arith, c.loop-w.invariant, fitting-end c.args.width t.table c.loop-w.w (omega (arith, t.whole)))
+    c.unwrap_or.ensures
+    ∙ ap (λ o. unwrap_or o 32) (position_from_yields_List (λ n. nat_le c.args.width n) _ _ c.position.result c.position.ensures.ran (YieldsList-from_slice t.table cc) (λ x b q k. search (rules, tests)))
+    ∙ fitting_found c.args.width t.table t.whole

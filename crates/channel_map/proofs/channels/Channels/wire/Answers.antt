@@ -1,19 +1,13 @@
-use Rattle.std.proofs.Common.{Some, sym, ap, ◌∙◌, ⊎_elim, arith}
-use Rattle.std.proofs.lemmas.Bool.{cases_lt}
-use Rattle.channel_map.specs.ChannelLaws.{channel_at_lem, shares-place, table_every, table_of}
+-- Each channel below 32 has a wire, so a channel without one is over 31.
+use Rattle.std.proofs.Common.{sym, ◌∙◌, eqb, rules, tests}
+use Rattle.std.proofs.lemmas.Iterator.{YieldsList-from_slice}
+use Rattle.std.proofs.lemmas.Iterator.Search.{position_from_yields_List}
+use Rattle.channel_map.specs.ChannelLaws.{table_of}
+use Rattle.channel_map.proofs.ChannelSteps.{wire_missing}
 use Rattle.channel_map.proofs.channels.Channels.wire.Goals as goal
 
-pub returns-then-channel-c : goal.returns-then-channel-c
-returns-then-channel-c c =
-    sym (channel_at_lem c.args.self.now.table c.args.self.now.whole c.loop-w.w c.loop-w-test.true)
-    ∙ ap (λ n. Some (record { 0 = n })) c.if-channel-c.true
-
--- each channel below 32 has a wire, so a channel without one is over 31
-pub returns : goal.returns
-returns c =
+pub returns-in_err-w : goal.returns-in_err-w
+returns-in_err-w c =
     let t = c.args.self.now in
-    ⊎_elim
-    (λ l.
-    let p = shares-place t.table c.args.c.0 (table_every (table_of t) c.args.c.0 l) in
-    absurd (c.loop-w.invariant p.0 (omega (arith, p.1, t.whole)) p.2))
-    (λ l. l) (cases_lt c.args.c.0 32)
+    let sought = position_from_yields_List (λ n. eqb n c.args.c.0) _ _ c.position.result c.position.ensures.ran (YieldsList-from_slice t.table cc) (λ x b q k. search (rules, tests)) in
+    rw c.from_residual.ensures (wire_missing (table_of t) c.args.c.0 (sym sought ∙ c.in_err-w.was))

@@ -1,7 +1,7 @@
 use Rattle.std.proofs.Common.{◌≡◌, take, drop}
 use Rattle.derivation.specs.Faults.{first_fault}
 use Rattle.channel_map.specs.Channels.{entry_fault, table_fault}
-use Rattle.channel_map.proofs.channels.table_fault.Given as goal
+use Rattle.channel_map.proofs.channels.check_table.Given as goal
 
 -- no entry so far is at fault
 abbrev pub invariant-loop-i : goal.invariant-loop-i
