@@ -9,10 +9,10 @@ ghost use Rattle.derivation.specs.Faults.{Checked as Passes};
 ghost use Rattle.derivation.specs.Rows.{all_below, environments, fits as fits_rule, found, gathered, is_node, is_power, left_part, numbers, releasing as releasing_of, row_fault, row_of, rule_step, step as step_of, taken as taken_by, taking as taking_of, type_at, unused_fault};
 
 use crate::rows::{Record, Row, Rule};
-use crate::sets::{has, only, union, without};
 use crate::types::{TypeEntry, TypeKind};
 use basics::numbers::{RowId, TypeId};
 use basics::refusal::Refusal;
+use basics::sets::Mask;
 use std::alloc::Global;
 
 // Entry t, if the table has it; the qubit is no entry.
@@ -80,10 +80,10 @@ fn taking(taken: u128, premises: &[RowId]) -> Option<u128>
 {
     let mut taken = taken;
     for p in premises {
-        if has(taken, p.0) {
+        if taken.has(p.0) {
             return None;
         }
-        taken = union(taken, only(p.0));
+        taken = taken.with(p.0);
     }
     Some(taken)
 }
@@ -94,10 +94,10 @@ fn releasing(env: u128, bound: &[RowId]) -> Option<u128>
 {
     let mut env = env;
     for x in bound {
-        if !has(env, x.0) {
+        if !env.has(x.0) {
             return None;
         }
-        env = without(env, x.0);
+        env = env.without(x.0);
     }
     Some(env)
 }
@@ -159,7 +159,7 @@ impl Checked {
     {
         premises
             .iter()
-            .fold(own, |env, p| union(env, self.env_at(*p)))
+            .fold(own, |env, p| env.union(self.env_at(*p)))
     }
 
     // What a row of these premises adds, if it introduces the variables of own and binds those that are bound.
@@ -181,7 +181,7 @@ impl Checked {
         ensures { result ≡ rule_step self.now.rows.items rule }
     {
         match rule {
-            Rule::Variable => self.step(only(self.next().0), &[], &[]),
+            Rule::Variable => self.step(0u128.with(self.next().0), &[], &[]),
             Rule::Zero | Rule::One | Rule::Gate(_) => self.step(0, &[], &[]),
             Rule::Lambda { premise, x } => self.step(0, &[premise], &[x]),
             Rule::PairLambda { premise, x, y } => self.step(0, &[premise], &[x, y]),
@@ -269,7 +269,7 @@ impl Checked {
         ensures { result ≡ find (λ q. not (member (taken_by self.now.rows.items) q)) (range_with_len 0 (length self.now.rows.items - 1)) }
     {
         let last = self.rows.len().saturating_sub(1) as u8;
-        (0..last).find(|q| !has(self.taken, *q))
+        (0..last).find(|q| !self.taken.has(*q))
     }
 
     // Whether each row but the last is a premise.

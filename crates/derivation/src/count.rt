@@ -9,9 +9,9 @@ ghost use Rattle.derivation.specs.Trees.{atoms as atoms_of, tree, trees};
 ghost use Rattle.derivation.specs.Weights.{size_of};
 
 use crate::rows::{Row, Rule};
-use crate::sets::has;
 use crate::types::{Size, TypeEntry};
 use basics::numbers::{RowId, TypeId};
+use basics::sets::Mask;
 
 // Rows whose types are known, with the sizes of the types, by which wires and places are counted.
 // No count reads the types. They say what the sizes are of, which a ghost field, a fact and no list, could not.
@@ -54,7 +54,7 @@ impl Measured<'_> {
         let mut count = (last.atoms - last.positive) as u32;
         // A loop: under a chain's `sum`, what `size` requires of each row is not proved.
         for (x, row) in self.rows.iter().enumerate() {
-            if has(env, x as u8) {
+            if env.has(x as u8) {
                 count += self.size(row.ty).positive as u32;
             }
         }

@@ -7,7 +7,6 @@ mod count;
 pub mod examples;
 pub mod holder;
 pub mod rows;
-mod sets;
 mod starts;
 pub mod types;
 mod writer;
