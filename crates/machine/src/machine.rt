@@ -16,11 +16,12 @@ ghost use Rattle.theory.specs.Theory.{Theory};
 ghost use Rattle.theory.specs.Tokens.{wire_at};
 
 use crate::tables::{
-    Polarity, RowFacts, TypeFacts, at, has, held, last_places, row_facts, start_places,
+    Polarity, RowFacts, TypeFacts, at, held, last_places, row_facts, start_places,
 };
 use basics::gate::Gate;
 use basics::numbers::{EndId, RowId, Wire};
 use basics::refusal::Refusal;
+use basics::sets::Mask;
 use derivation::holder::Holder;
 use derivation::rows::{Part, Place, Row, Rule};
 use derivation::types::TypeEntry;
@@ -112,7 +113,7 @@ impl Machine {
     fn holds(&self, r: RowId, z: RowId) -> bool
         ensures { result ≡ member (env_at self.now.rows.items r.0) z.0 }
     {
-        self.fact(r).is_some_and(|facts| has(facts.env, z.0))
+        self.fact(r).is_some_and(|facts| facts.env.has(z.0))
     }
 
     // The polarity of p, if its part has so many atoms; a variable that the environment lacks has none.

@@ -2,9 +2,8 @@
 ghost use Rattle.std.specs.Prelude.{◌≡◌, ℕ, ◌+◌, ◌-◌, ◌^◌, ◌<◌, ◌≤◌, true, not, [], ◌++◌, map, length, MatchResult, OnOk, slice_index_or};
 ghost use Rattle.derivation.specs.Accepted.{Accepted, Table};
 ghost use Rattle.derivation.specs.Judgements.{rule_at};
-ghost use Rattle.derivation.specs.Places.{is_bit, numbers};
+ghost use Rattle.derivation.specs.Places.{numbers};
 ghost use Rattle.derivation.specs.Rows.{all_below, environments, premises};
-ghost use Rattle.basics.specs.Sets.{has as member};
 ghost use Rattle.derivation.specs.Trees.{trees};
 ghost use Rattle.basics.specs.declared.refusal.Layer.TheVariants.{Bytes};
 ghost use Rattle.basics.specs.declared.refusal.Refusal.TheVariants.{OutOfMemory};
@@ -13,6 +12,7 @@ ghost use Rattle.theory.specs.Ports.{at as type_place, below_from, bit_places, h
 
 use basics::numbers::{Atom, RowId};
 use basics::refusal::Refusal;
+use basics::sets::Mask;
 use derivation::rows::{Part, Place, Row, Rule};
 use derivation::types::{TypeEntry, TypeKind};
 use std::alloc::{AllocFailed, Global};
@@ -50,7 +50,7 @@ impl TypeFacts {
     pub(crate) fn polarity(self, i: u8) -> Option<Polarity>
         ensures { result ≡ atom_polarity self i }
     {
-        let positive = has(self.signs as u128, i);
+        let positive = u128::from(self.signs).has(i);
         (i < self.width).then_some(if positive {
             Polarity::Positive
         } else {
@@ -158,13 +158,6 @@ pub(crate) fn row_facts(
     Ok(facts)
 }
 
-// Whether x is in a set of rows or of atoms.
-pub(crate) fn has(set: u128, x: u8) -> bool
-    ensures { result ≡ member set x }
-{
-    x < 128 && (set >> x) & 1 == 1
-}
-
 // A part of a row, with the facts of its type.
 #[derive(Clone, Copy)]
 struct PartFacts {
@@ -233,7 +226,7 @@ pub(crate) fn last_places(
     let own = facts[last];
     let mut places = Vec::new(heap);
     for (x, bound) in facts.iter().enumerate() {
-        if has(own.env, x as u8) {
+        if own.env.has(x as u8) {
             let variable = PartFacts {
                 row,
                 part: Part::Variable(RowId(x as u8)),
@@ -251,23 +244,13 @@ pub(crate) fn last_places(
     Ok(places)
 }
 
-// Whether a rule starts a wire: zero and one do.
-fn is_bit(rule: Rule) -> bool
-    ensures { result ≡ is_bit rule }
-{
-    match rule {
-        Rule::Zero | Rule::One => true,
-        _ => false,
-    }
-}
-
 // Adds the places of zero and one rows.
 fn push_bits(places: &mut Vec<Place>, rows: &[Row]) -> Result<(), AllocFailed<Place>>
     requires { length rows.now ≤ 128 }
     ensures { OnOk result (places.new.items ≡ places.old.items ++ bit_places [] rows.now 0 rows.now) }
 {
     for (r, row) in rows.iter().enumerate() {
-        if is_bit(row.rule) {
+        if row.rule.is_bit() {
             places.push(at(RowId(r as u8), 0))?;
         }
     }

@@ -1,12 +1,12 @@
 // What a run keeps of its tokens, so that no move looks at all wires: the place of each token, who waits at each row, and
 // who can move.
 ghost use Rattle.std.specs.Prelude.{◌≡◌, ◌<◌, ◌≤◌, true, length, take, IfOk, slice_index_or};
-ghost use Rattle.basics.specs.Sets.{only, union, without as removed};
 ghost use Rattle.derivation.specs.Rows.{all_below};
 ghost use Rattle.target.specs.Interface.{numbers_of};
 ghost use Rattle.run.specs.Books.{FitFor, books_of, nobody, passed_in, sat, settled_in, start_books, stepped_in};
 
 use basics::numbers::Wire;
+use basics::sets::Mask;
 use derivation::rows::Place;
 use machine::machine::{Machine, Seat};
 use std::alloc::{AllocError, Global};
@@ -25,22 +25,6 @@ pub(crate) struct Books {
     pub(crate) places: Vec<Place>,
     pub(crate) waiting: Vec<Waiting>,
     pub(crate) ready: u32,
-}
-
-// The set with w.
-fn with(set: u32, w: Wire) -> u32
-    requires { w.0 < 32 }
-    ensures { result ≡ union set (only w.0) }
-{
-    set | (1u32 << w.0)
-}
-
-// The set less w.
-fn without(set: u32, w: Wire) -> u32
-    requires { w.0 < 32 }
-    ensures { result ≡ removed set w.0 }
-{
-    set ^ (set & (1u32 << w.0))
 }
 
 // The machine stands beside the books, and `fit` ties them. It is asked of each step, and is no field of the books: if they
@@ -77,13 +61,13 @@ impl Books {
         ensures { books_of self.new ≡ sat (books_of self.old) seat.row.0 seat.number seat.arity w.0 }
     {
         let here = &mut self.waiting[seat.row.0 as usize];
-        here.wires = with(here.wires, w);
+        here.wires = here.wires.with(w.0);
         here.seats[seat.number as usize] = w;
         let all = here.wires;
         self.ready = if all.count_ones() == seat.arity as u32 {
-            self.ready | all
+            self.ready.union(all)
         } else {
-            without(self.ready, w)
+            self.ready.without(w.0)
         };
     }
 
@@ -96,9 +80,9 @@ impl Books {
         if let Some(seat) = machine.seat(p) {
             self.sit(seat, w);
         } else if machine.is_end(p) {
-            self.ready = without(self.ready, w);
+            self.ready = self.ready.without(w.0);
         } else {
-            self.ready = with(self.ready, w);
+            self.ready = self.ready.with(w.0);
         }
     }
 

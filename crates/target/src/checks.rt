@@ -1,29 +1,19 @@
 // The checks that all kinds of targets share; a maker of a new kind may call them too.
 ghost use Rattle.std.specs.Prelude.{◌≡◌, ◌^◌, true, if◌then◌else◌, nat_lt};
 ghost use Rattle.derivation.specs.Rows.{all_below, all_in};
-ghost use Rattle.basics.specs.Sets.{has as member, without as removed};
+ghost use Rattle.basics.specs.Sets.{has as member};
 ghost use Rattle.target.specs.Interface.{numbers_of, seated as seated_in, sets_fit};
 
 use basics::gate::Gate;
 use basics::numbers::Wire;
 use basics::refusal::Refusal;
+use basics::sets::Mask;
 
 // Whether w is in the set.
 pub fn has(set: u32, w: Wire) -> bool
     ensures { result ≡ member set w.0 }
 {
-    w.0 < 32 && (set >> w.0) & 1 == 1
-}
-
-// The set less w.
-fn without(set: u32, w: Wire) -> u32
-    ensures { result ≡ removed set w.0 }
-{
-    if w.0 < 32 {
-        set ^ (set & (1u32 << w.0))
-    } else {
-        set
-    }
+    set.has(w.0)
 }
 
 // Whether all wires are in the set, and no two are equal. A loop, since the set shrinks on the way: try_fold with then
@@ -36,7 +26,7 @@ fn all_in(set: u32, wires: &[Wire]) -> bool
         if !has(left, *w) {
             return false;
         }
-        left = without(left, *w);
+        left = left.without(w.0);
     }
     true
 }

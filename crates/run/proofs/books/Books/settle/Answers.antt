@@ -20,5 +20,5 @@ pub returns-else-is_end : goal.returns-else-is_end
 returns-else-is_end c =
     let m = c.args.machine.now in
     let b = c.args.self.now in
-    ap (λ (n : ℕ). record { tokens = vec_items b.places; waiting = vec_items b.waiting; ready = n }) c.with-self.ensures
+    ap (λ (n : ℕ). record { tokens = vec_items b.places; waiting = vec_items b.waiting; ready = n }) (c.with-self.ensures.within c.requires.wire)
     ∙ settled_on (vec_items m.types) (vec_items m.rows) (books_of b) c.args.w.0 c.args.p c.in_default.ensures c.if-is_end.ensures
