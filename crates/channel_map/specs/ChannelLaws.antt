@@ -12,12 +12,12 @@ use Rattle.derivation.specs.Faults.{first_fault}
 use Rattle.basics.specs.declared.refusal.Refusal.TheVariants.{ChannelEntry}
 use Rattle.basics.specs.Sets.{has, only, union}
 use Rattle.derivation.proofs.FaultLaws.{cond_none, first-after, first-at, none_from}
-use Rattle.basics.proofs.SetLaws.{has_none, has-only, has-union}
+use Rattle.basics.proofs.SetLaws.{has_past, has_none, has-only, has-union}
 use Rattle.target.specs.Interface.{disjoint, sets_fit, shares, within}
-use Rattle.target.proofs.MaskLaws.{has-and, has_past}
+use Rattle.target.proofs.MaskLaws.{has-and}
 use Rattle.target.proofs.WireLaws.{not_shared}
 use Rattle.channel_map.specs.declared.channels.Channels.{Channels}
-use Rattle.channel_map.specs.Channels.{GreatestWidth, Table, channel_at, channel_of, channels_from, channels_of, down_from, entry_fault, fitting, table_fault, up_from, wires_from, wires_of}
+use Rattle.channel_map.specs.Channels.{GreatestWidth, Table, channel_of, channels_from, channels_of, down_from, entry_fault, fitting, table_fault, up_from, wires_from, wires_of}
 
 -- masks
 

@@ -10,7 +10,7 @@ use Rattle.basics.specs.Gates.{arity}
 use Rattle.derivation.specs.Rows.{all_below, all_in}
 use Rattle.basics.specs.Sets.{has, only, union, without}
 use Rattle.basics.proofs.SetLaws.{has-only, has-union, has-without}
-use Rattle.target.specs.Interface.{Commutes, Kept, Obeys, View, apart_from, applied_view, apply_fault, begin_fault, begun_view, seated, sets_fit, shares}
+use Rattle.target.specs.Interface.{Commutes, Obeys, View, apart_from, applied_view, apply_fault, begin_fault, begun_view, seated, sets_fit, shares}
 use Rattle.target.proofs.MaskLaws.{all_below_lem, has_below}
 use Rattle.target.proofs.WireLaws.{arity_few}
 use Rattle.channel_map.specs.Channels.{Table, channel_of, channels_of, fitting, mapped_applied, mapped_begun, mapped_view, seatable, wires_of}

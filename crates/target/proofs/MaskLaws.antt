@@ -1,37 +1,19 @@
--- Sets as masks of k bits: no number from k on is in such a set, and a mask fits k bits if nothing is left of it after a shift by k.
-use Rattle.std.proofs.Common.{◌≡◌, ℕ, zero, suc, ◌/◌, ◌%◌, ◌^◌, ◌<◌, ◌≤◌, true, false, ◌&&◌, eqb, ltb, List, [], ◌∷◌, length, get_or, sym, refl, ap, ◌∙◌, ⊎_elim, lt_of_lt_of_le, one-mul, arith, pow_mono}
+-- Sets as masks of k bits: what is in such a set is below k, and a mask fits k bits if nothing is left of it after a shift by k.
+use Rattle.std.proofs.Common.{◌≡◌, ℕ, zero, suc, ◌/◌, ◌%◌, ◌^◌, ◌<◌, ◌≤◌, true, ◌&&◌, eqb, ltb, List, [], ◌∷◌, length, get_or, sym, refl, ap, ◌∙◌, ⊎_elim, arith}
 use native.Mathlib.Nat.{div-eq_of_lt}
-use lib.Bits.{bit_and, bit_xor, and_comm, and_mask, and_mod, and_shifted, and_shr, xor_zero_r}
+use lib.Bits.{bit_and, and_mod, and_shr}
 use Rattle.std.proofs.lemmas.Nat.{pow_pos, le-div, mod_below}
 use Rattle.std.proofs.lemmas.List.{get_or-map, length-map}
 use Rattle.std.proofs.lemmas.Bool.{cases_lt, lt-ltb, le-ltb, eq-eqb, ne_eqb, and_parts, and_from, both_ways}
 use Rattle.derivation.specs.Rows.{all_in, all_below}
 use Rattle.basics.specs.Sets.{has, without}
 use Rattle.derivation.proofs.RowLaws.{below_from_lem}
-use Rattle.basics.proofs.SetLaws.{has-without}
+use Rattle.basics.proofs.SetLaws.{below_power, has_past, has-without}
 use Rattle.basics.specs.declared.numbers.Wire.{Wire}
 use Rattle.target.specs.Interface.{numbers_of}
 
--- a shift and a mask read one bit
-pub bit-read : (m x : ℕ) → eqb (bit_and (m / 2 ^ x) 1) 1 ≡ has m x
-unfolding has
-bit-read m x = ap (λ n. eqb n 1) (and_mask (m / 2 ^ x) 1)
-
-module _ (k m x : ℕ) (fits : m < 2 ^ k) (past : k ≤ x) where
-  below_power : m < 2 ^ x
-  below_power = lt_of_lt_of_le fits (pow_mono past)
-
-  pub has_past : has m x ≡ false
-  unfolding has
-  has_past = ap (λ n. eqb (n % 2) 1) (div-eq_of_lt below_power)
-
-  pub without_past : without m x ≡ m
-  unfolding without
-  without_past =
-      ap (bit_xor m) (and_comm m (2 ^ x) ∙ ap (λ n. bit_and n m) (sym (one-mul (2 ^ x))) ∙ and_shifted 1 x m below_power) ∙ xor_zero_r m
-
-  pub fits_past : ltb m (2 ^ x) ≡ true
-  fits_past = lt-ltb m (2 ^ x) below_power
+pub fits_past : (k m x : ℕ) → m < 2 ^ k → k ≤ x → ltb m (2 ^ x) ≡ true
+fits_past k m x fits past = lt-ltb m (2 ^ x) (below_power k m x fits past)
 
 -- what is in a mask of k bits is below k
 pub has_below : (k m x : ℕ) → m < 2 ^ k → has m x ≡ true → x < k
