@@ -1,5 +1,5 @@
 // The reader of the byte format.
-ghost use Rattle.std.specs.Prelude.{◌≡◌, ◌≤◌, ◌-◌, ◌==◌, ◌||◌, ℕ, List, length, nat_lt};
+ghost use Rattle.std.specs.Prelude.{◌≡◌, ◌<◌, ◌≤◌, ◌-◌, ◌==◌, ◌||◌, ℕ, List, length, nat_lt};
 ghost use Rattle.derivation.specs.Faults.{Gives};
 ghost use Rattle.derivation.specs.Format.{cut, front_row, front_type, gate_rule, parse as parsed, row_length, type_length};
 ghost use Rattle.basics.specs.Gates.{gate_of};
@@ -14,11 +14,14 @@ use basics::numbers::{RowId, TypeId};
 use basics::refusal::Refusal;
 use std::alloc::Global;
 
-// Types and rows as their bytes have them, not yet checked.
+// Types and rows as their bytes have them, not yet checked; they are as many as the header may say.
 #[derive(Drop)]
 pub(crate) struct Parsed {
     pub(crate) types: Vec<TypeEntry>,
     pub(crate) records: Vec<Record>,
+    ghost few_types: { length types.items ≤ 64 },
+    ghost some_rows: { 0 < length records.items },
+    ghost few_rows: { length records.items ≤ 128 },
 }
 
 // The numbers of further types and rows, and what follows the header.

@@ -17,7 +17,7 @@ use crate::count::Measured;
 use crate::rows::{Row, Rule, Start};
 use crate::starts::wire_starts;
 use crate::types::{Size, TypeEntry, type_sizes};
-use crate::writer::write_derivation;
+use crate::writer::Encoding;
 use basics::numbers::{RowId, TypeId};
 use basics::refusal::Refusal;
 use std::alloc::Global;
@@ -70,9 +70,6 @@ fn counted(types: &[TypeEntry], sizes: &[Size], checked: &Checked) -> Result<Cou
 
 // The holder of what was parsed, or its first fault.
 fn accept(heap: Global, parsed: Parsed) -> Result<Holder, Refusal>
-    requires few_types { length parsed.types.items ≤ 64 }
-    requires some_rows { 0 < length parsed.records.items }
-    requires few_rows { length parsed.records.items ≤ 128 }
     ensures { Passes (fault parsed.types.items parsed.records.items) result (λ h. (h.types.items ≡ parsed.types.items) × (h.rows.items ≡ map row_of parsed.records.items)) }
 {
     let Parsed { types, records } = parsed;
@@ -107,10 +104,8 @@ impl Holder {
     pub fn new(heap: Global) -> Result<Holder, Refusal>
         ensures { MatchResult result (λ h. (h.types.items ≡ []) × (h.rows.items ≡ zero_row ∷ [])) (λ e. e ≡ OutOfMemory Bytes) }
     {
-        let mut rows = Vec::new(heap);
-        rows.push(ZERO_ROW)?;
-        let mut envs = Vec::new(heap);
-        envs.push(0)?;
+        let rows = Vec::from_slice(heap, &[ZERO_ROW])?;
+        let envs = Vec::from_slice(heap, &[0])?;
         Ok(Holder {
             types: Vec::new(heap),
             rows,
@@ -138,7 +133,11 @@ impl Holder {
         ensures answer { result ≡ write_answer self.now.types.items self.now.rows.items (length buffer.old) }
         ensures after { buffer.new ≡ write_after self.now.types.items self.now.rows.items buffer.old }
     {
-        write_derivation(self.types.as_slice(), self.rows.as_slice(), buffer)
+        let encoding = Encoding {
+            types: self.types.as_slice(),
+            rows: self.rows.as_slice(),
+        };
+        encoding.write(buffer)
     }
 
     // The further types, entry 1 first.

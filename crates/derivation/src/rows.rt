@@ -1,10 +1,11 @@
 // The rows of a derivation. A row is named by its number, and a variable by the row that introduces it.
-ghost use Rattle.std.specs.Prelude.{◌≡◌};
+ghost use Rattle.std.specs.Prelude.{◌≡◌, Some};
 ghost use Rattle.derivation.specs.Places.{is_bit, is_gate, mates as mates_of};
 ghost use Rattle.derivation.specs.Starts.{start_of, start_word};
 
 use basics::gate::Gate;
 use basics::numbers::{Atom, RowId, TypeId};
+use std::fmt;
 
 // How a wire's token starts: at a negative place of the last row, or at a zero or one row.
 #[derive(Clone, Copy, Debug, PartialEq, Eq)]
@@ -23,6 +24,14 @@ impl Start {
             Start::Zero => "zero",
             Start::One => "one",
         }
+    }
+}
+
+impl fmt::Display for Start {
+    ghost output = { λ start. Some (start_word start) };
+
+    fn fmt<W: fmt::Write>(&self, f: &mut fmt::Formatter<W>) -> fmt::Result {
+        f.write_str(self.word())
     }
 }
 

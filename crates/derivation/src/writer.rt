@@ -88,34 +88,37 @@ fn row_len(row: &Row) -> usize
     }
 }
 
-// How many bytes a derivation has.
-fn encoded_len(types: &[TypeEntry], rows: &[Row]) -> usize
-    requires few_types { length types.now ≤ 64 }
-    requires few_rows { length rows.now ≤ 128 }
-    ensures { result ≡ length (encode types.now rows.now) }
-{
-    5 + 4 * types.len() + rows.iter().map(row_len).sum::<usize>()
+// Types and rows that are few enough to be written.
+#[derive(Clone, Copy)]
+pub(crate) struct Encoding<'a> {
+    pub(crate) types: &'a [TypeEntry],
+    pub(crate) rows: &'a [Row],
+    ghost few_types: { length types.now ≤ 64 },
+    ghost few_rows: { length rows.now ≤ 128 },
 }
 
-// Fills the front of the buffer with the bytes of a derivation, and answers their number.
-pub(crate) fn write_derivation(
-    types: &[TypeEntry],
-    rows: &[Row],
-    buffer: &mut [u8],
-) -> Result<usize, Refusal>
-    requires few_types { length types.now ≤ 64 }
-    requires few_rows { length rows.now ≤ 128 }
-    ensures answer { result ≡ write_answer types.now rows.now (length buffer.old) }
-    ensures after { buffer.new ≡ write_after types.now rows.now buffer.old }
-{
-    let len = encoded_len(types, rows);
-    if len > buffer.len() {
-        return Err(Refusal::BufferTooShort(len));
+impl Encoding<'_> {
+    // How many bytes they have.
+    fn len(&self) -> usize
+        ensures { result ≡ length (encode self.now.types.now self.now.rows.now) }
+    {
+        5 + 4 * self.types.len() + self.rows.iter().map(row_len).sum::<usize>()
     }
-    let [high, low] = (len as u16).to_be_bytes();
-    let header = [1, high, low, types.len() as u8, rows.len() as u8];
-    let mut at = put_bytes(&header, buffer);
-    at += put_all(types, &mut buffer[at..]);
-    at += put_all(rows, &mut buffer[at..]);
-    Ok(at)
+
+    // Fills the front of the buffer with their bytes, and answers the number of these.
+    pub(crate) fn write(&self, buffer: &mut [u8]) -> Result<usize, Refusal>
+        ensures answer { result ≡ write_answer self.now.types.now self.now.rows.now (length buffer.old) }
+        ensures after { buffer.new ≡ write_after self.now.types.now self.now.rows.now buffer.old }
+    {
+        let len = self.len();
+        if len > buffer.len() {
+            return Err(Refusal::BufferTooShort(len));
+        }
+        let [high, low] = (len as u16).to_be_bytes();
+        let header = [1, high, low, self.types.len() as u8, self.rows.len() as u8];
+        let mut at = put_bytes(&header, buffer);
+        at += put_all(self.types, &mut buffer[at..]);
+        at += put_all(self.rows, &mut buffer[at..]);
+        Ok(at)
+    }
 }

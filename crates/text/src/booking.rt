@@ -27,8 +27,7 @@ fn push_start_lines(text: &mut String, starts: &[Start]) -> Result<(), AllocErro
     ensures { OnOk result (string_bytes text.new ≡ string_bytes text.old ++ start_lines 0 starts.now) }
 {
     for (wire, start) in starts.iter().enumerate() {
-        let word = start.word();
-        write!(text, "{wire} {word}\n")?;
+        write!(text, "{wire} {start}\n")?;
     }
     Ok(())
 }

@@ -1,8 +1,11 @@
 -- Each step of the reader is that of the definition.
-use Rattle.std.proofs.Common.{inl, inr, ⊎_elim, rules, ◌∙◌}
+use Rattle.std.proofs.Common.{◌≡◌, Ok, vec_items, inl, inr, ⊎_elim, rules, ◌∙◌}
 use Rattle.std.proofs.lemmas.Result.{err_from_is_err_and}
+use Rattle.derivation.specs.Format.{parse as parsed}
+use Rattle.derivation.proofs.FormatLaws.{parse-counts}
 use Rattle.derivation.proofs.ParseSteps.{parse-header, parse-types, parse-rows, parse-trailing, parse-done}
 use Rattle.derivation.proofs.bytes.parse.Goals as goal
+use Rattle.derivation.proofs.bytes.parse.Goals.{Else-not-is_empty}
 
 pub returns-in_err-type_count : goal.returns-in_err-type_count
 returns-in_err-type_count c =
@@ -27,7 +30,16 @@ returns-then-not-is_empty c =
     let at = rw total at c.at.ensures in
     rw at (inl (parse-trailing c.args.bytes.now c.in_ok-type_count.ensures c.in_ok-types.ensures.read rows (search rules)))
 
-pub returns : goal.returns
-returns c =
+-- what was read is what the definition gives
+done : (c : Else-not-is_empty) → parsed c.args.bytes.now ≡ Ok (record { types = vec_items c.in_ok-types.types; records = vec_items c.in_ok-records.records })
+done c =
     let rows = rw c.in_ok-types.ensures.same at c.in_ok-records.ensures.read in
     parse-done c.args.bytes.now c.in_ok-type_count.ensures c.in_ok-types.ensures.read rows (search rules)
+
+pub invariant_of-result : goal.invariant_of-result
+invariant_of-result c =
+    let n = parse-counts c.args.bytes.now _ (done c) in
+    record { few_types = n.0; some_rows = n.1; few_rows = n.2 }
+
+pub returns : goal.returns
+returns c = done (goal.at.returns c).Else-not-is_empty

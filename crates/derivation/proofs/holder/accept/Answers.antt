@@ -13,7 +13,7 @@ sound c =
     let h = ap length c.as_slice-table.ensures.value in
     let n = ap length c.as_slice.ensures.value in
     sound-from c.as_slice-table.result.now c.as_slice.result.now (vec_items c.in_ok-sizes.sizes) (vec_items c.in_ok-checked.checked.rows)
-    (omega (arith, c.requires.few_types)) (omega (arith, c.requires.some_rows)) (omega (arith, c.requires.few_rows)) s.0 k.0 s.1 k.1
+    (omega (arith, c.args.parsed.few_types)) (omega (arith, c.args.parsed.some_rows)) (omega (arith, c.args.parsed.few_rows)) s.0 k.0 s.1 k.1
 
 pub counted-requires : goal.counted-requires
 counted-requires c = sound-same (sound (goal.at.counted-requires c).In_ok-checked) c.as_slice-2.ensures.value refl

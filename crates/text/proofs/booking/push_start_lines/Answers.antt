@@ -8,7 +8,7 @@ use Rattle.text.proofs.booking.push_start_lines.Goals as goal
 
 pub loop-wire-preserved : goal.loop-wire-preserved
 loop-wire-preserved c =
-    rw c.word-word.ensures at c.in_ok-write.ensures.bytes
+    c.in_ok-write.ensures.bytes
     ∙ numbered-more start_line (string_bytes c.args.text.now) c.args.starts.now c.loop-wire.wire-counter Given c.loop-wire-test.true c.loop-wire.invariant
 
 pub returns : goal.returns
