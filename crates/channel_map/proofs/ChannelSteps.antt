@@ -1,10 +1,8 @@
 -- The steps of the loop over a table, and what a search of a table finds.
-use Rattle.std.proofs.Common.{◌≡◌, ℕ, suc, ◌+◌, ◌*◌, ◌%◌, ◌^◌, ◌<◌, ◌≤◌, Bool, eqb, not, true, false, cond, ltb, leb, List, length, get_or, drop, Some, None, sym, refl, ap, ◌∙◌, ⊎_elim, add-one, arith}
-use lib.Bits.{bit_or}
+use Rattle.std.proofs.Common.{◌≡◌, ℕ, suc, ◌+◌, ◌<◌, ◌≤◌, Bool, eqb, not, true, false, cond, ltb, leb, List, length, get_or, drop, Some, None, sym, refl, ap, ◌∙◌, ⊎_elim, add-one, arith}
 use lib.ListN.{length-map}
 use Rattle.std.specs.List.{position_or_len}
 use Rattle.std.specs.Option.{unwrap_or}
-use Rattle.std.proofs.lemmas.Nat.{one_shl}
 use Rattle.std.proofs.lemmas.List.Recursion.{is_position_or_len}
 use Rattle.std.proofs.lemmas.List.Sums.{fails_before_first, prefix_len-le-length}
 use Rattle.std.proofs.lemmas.List.{drop_all, drop_more}
@@ -31,12 +29,11 @@ module _ (xs : List ℕ) (m w : ℕ) where
       ∙ ap (λ n. union (union so_far (cond (has m w) (only (get_or xs w 0)) 0)) (channels_from n (drop (w + 1) xs) m)) (sym (add-one w))
 
   -- a wire in the set adds its channel
-  pub channels_with : (so_far after : ℕ) → w < length xs → get_or xs w 0 < 32 → has m w ≡ true → after ≡ bit_or so_far ((1 * 2 ^ get_or xs w 0) % 2 ^ 32)
+  pub channels_with : (so_far after : ℕ) → w < length xs → has m w ≡ true → after ≡ union so_far (only (get_or xs w 0))
       → union after (channels_from (w + 1) (drop (w + 1) xs) m) ≡ union so_far (channels_from w (drop w xs) m)
-  unfolding only union
-  channels_with so_far after h low e is =
+  channels_with so_far after h e is =
       ap (λ n. union n (channels_from (w + 1) (drop (w + 1) xs) m))
-      (is ∙ ap (bit_or so_far) (one_shl (get_or xs w 0) 32 low) ∙ ap (union so_far) (sym (cond-true (has m w) (only (get_or xs w 0)) 0 e)))
+      (is ∙ ap (union so_far) (sym (cond-true (has m w) (only (get_or xs w 0)) 0 e)))
       ∙ sym (channels_next so_far h)
 
   -- another wire adds none

@@ -5,6 +5,7 @@ ghost use Rattle.channel_map.specs.Channels.{channel_at, channel_of, channels_of
 
 use basics::numbers::Wire;
 use basics::refusal::Refusal;
+use basics::sets::Mask;
 use std::array;
 use target::checks::has;
 
@@ -76,10 +77,10 @@ impl Channels {
     pub(crate) fn channel_set(&self, wires: u32) -> u32
         ensures { result ≡ channels_of self.now.table wires }
     {
-        let mut channels = 0;
+        let mut channels = 0u32;
         for (w, channel) in self.table.iter().enumerate() {
             if has(wires, Wire(w as u8)) {
-                channels |= 1u32 << *channel;
+                channels = channels.with(*channel);
             }
         }
         channels

@@ -8,17 +8,13 @@ use Rattle.channel_map.proofs.channels.Channels.channel_set.Goals.{then-has, els
 pub loop-w-init : goal.loop-w-init
 loop-w-init c = channels_start c.args.self.now.table c.args.wires
 
-pub overflow_shl-channels : goal.overflow_shl-channels
-overflow_shl-channels c =
-    let t = c.args.self.now in omega (arith, table-low (table_of t) c.loop-w.w c.loop-w-test.true)
-
 pub loop-w-preserved : goal.loop-w-preserved
 loop-w-preserved c =
     let t = c.args.self.now in
     let w = c.loop-w.w in
     let low = table-low (table_of t) w c.loop-w-test.true in
     elim c.if-has.branch [
-      | then-has x ↦ channels_with t.table c.args.wires w c.loop-w.channels c.if-has.channels (omega (arith, t.whole)) low (sym x.if-has.ensures) x.channels-is ∙ c.loop-w.invariant
+      | then-has x ↦ channels_with t.table c.args.wires w c.loop-w.channels c.if-has.channels (omega (arith, t.whole)) (sym x.if-has.ensures) (x.channels-is ∙ x.with-channels.ensures.within low) ∙ c.loop-w.invariant
       | else-has x ↦ channels_skip t.table c.args.wires w c.loop-w.channels c.if-has.channels (omega (arith, t.whole)) (sym x.if-has.ensures) x.channels-is ∙ c.loop-w.invariant
     ]
 
