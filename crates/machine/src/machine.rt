@@ -15,9 +15,7 @@ ghost use Rattle.theory.specs.Ports.{across_own, across_premise, at as type_plac
 ghost use Rattle.theory.specs.Theory.{Theory};
 ghost use Rattle.theory.specs.Tokens.{wire_at};
 
-use crate::tables::{
-    Polarity, RowFacts, TypeFacts, at, held, last_places, row_facts, start_places,
-};
+use crate::tables::{KnownRows, Polarity, RowFacts, TypeFacts, at, held, row_facts};
 use basics::gate::Gate;
 use basics::numbers::{EndId, RowId, Wire};
 use basics::refusal::Refusal;
@@ -75,8 +73,12 @@ impl Machine {
             rows.as_slice(),
             holder.environments(),
         )?;
-        let starts = start_places(heap, facts.as_slice(), rows.as_slice())?;
-        let ends = last_places(heap, facts.as_slice(), Polarity::Positive)?;
+        let known = KnownRows {
+            rows: rows.as_slice(),
+            facts: facts.as_slice(),
+        };
+        let starts = known.start_places(heap)?;
+        let ends = known.last_places(heap, Polarity::Positive)?;
         Ok(Machine {
             types,
             rows,
@@ -247,6 +249,7 @@ impl Machine {
     }
 
     // From an atom of variable z of a pair lambda's body: x and y are bound.
+    // On the way down s and r, the row below, are of two rows that no fact ties: a struct of both would only move words.
     fn pair_lambda_down(&self, s: Spot, r: RowId, x: RowId, y: RowId, z: RowId) -> Place
         ensures { result ≡ (if nat_eq z.0 x.0 then type_place r.0 s.place.atom.0 else (if nat_eq z.0 y.0 then type_place r.0 (within self.now width_of x.0 + s.place.atom.0) else held_place r.0 z.0 s.place.atom.0)) }
     {

@@ -85,6 +85,8 @@ fn joined(kind: TypeKind, left: TypeFacts, right: TypeFacts) -> TypeFacts
 }
 
 // The facts of a table's types, from entry 0 on.
+// Not one function with derivation's type_sizes, which checks each entry against those before it and can refuse;
+// this reads a checked table. A shared loop would take its step as a closure, and be longer than both.
 fn type_facts(heap: Global, types: &[TypeEntry]) -> Result<Vec<TypeFacts>, Refusal>
     requires { Table types.now }
     ensures { MatchResult result (λ v. v.items ≡ map facts_of (trees types.now)) (λ e. e ≡ OutOfMemory Bytes) }
@@ -210,65 +212,67 @@ pub(crate) fn held(r: RowId, x: RowId, i: u8) -> Place
     }
 }
 
-// The places of the last row that have the polarity.
-// A place in a variable has the reverse of its atom's polarity.
-pub(crate) fn last_places(
-    heap: Global,
-    facts: &[RowFacts],
-    polarity: Polarity,
-) -> Result<Vec<Place>, Refusal>
-    requires some { 0 < length facts.now }
-    requires few { length facts.now ≤ 128 }
-    ensures { MatchResult result (λ v. v.items ≡ signed_at facts.now (not (is_positive polarity)) (length facts.now - 1)) (λ e. e ≡ OutOfMemory Bytes) }
-{
-    let last = facts.len() - 1;
-    let row = RowId(last as u8);
-    let own = facts[last];
-    let mut places = Vec::new(heap);
-    for (x, bound) in facts.iter().enumerate() {
-        if own.env.has(x as u8) {
-            let variable = PartFacts {
-                row,
-                part: Part::Variable(RowId(x as u8)),
-                ty: bound.ty,
-            };
-            variable.push_places(&mut places, polarity.reversed())?;
-        }
-    }
-    let ty = PartFacts {
-        row,
-        part: Part::Ty,
-        ty: own.ty,
-    };
-    ty.push_places(&mut places, polarity)?;
-    Ok(places)
+// The rows of a derivation, with the facts of each beside it.
+#[derive(Clone, Copy)]
+pub(crate) struct KnownRows<'a> {
+    pub(crate) rows: &'a [Row],
+    pub(crate) facts: &'a [RowFacts],
+    ghost alike: { length facts.now ≡ length rows.now },
+    ghost some: { 0 < length rows.now },
+    ghost few: { length rows.now ≤ 128 },
 }
 
-// Adds the places of zero and one rows.
-fn push_bits(places: &mut Vec<Place>, rows: &[Row]) -> Result<(), AllocFailed<Place>>
-    requires { length rows.now ≤ 128 }
-    ensures { OnOk result (places.new.items ≡ places.old.items ++ bit_places [] rows.now 0 rows.now) }
-{
-    for (r, row) in rows.iter().enumerate() {
-        if row.rule.is_bit() {
-            places.push(at(RowId(r as u8), 0))?;
+impl KnownRows<'_> {
+    // The places of the last row that have the polarity.
+    // A place in a variable has the reverse of its atom's polarity.
+    pub(crate) fn last_places(
+        &self,
+        heap: Global,
+        polarity: Polarity,
+    ) -> Result<Vec<Place>, Refusal>
+        ensures { MatchResult result (λ v. v.items ≡ signed_at self.now.facts.now (not (is_positive polarity)) (length self.now.facts.now - 1)) (λ e. e ≡ OutOfMemory Bytes) }
+    {
+        let last = self.facts.len() - 1;
+        let row = RowId(last as u8);
+        let own = self.facts[last];
+        let mut places = Vec::new(heap);
+        for (x, bound) in self.facts.iter().enumerate() {
+            if own.env.has(x as u8) {
+                let variable = PartFacts {
+                    row,
+                    part: Part::Variable(RowId(x as u8)),
+                    ty: bound.ty,
+                };
+                variable.push_places(&mut places, polarity.reversed())?;
+            }
         }
+        let ty = PartFacts {
+            row,
+            part: Part::Ty,
+            ty: own.ty,
+        };
+        ty.push_places(&mut places, polarity)?;
+        Ok(places)
     }
-    Ok(())
-}
 
-// The places where tokens start: the negative places of the last row, and those of zero and one rows.
-pub(crate) fn start_places(
-    heap: Global,
-    facts: &[RowFacts],
-    rows: &[Row],
-) -> Result<Vec<Place>, Refusal>
-    requires some { 0 < length facts.now }
-    requires few { length facts.now ≤ 128 }
-    requires few_rows { length rows.now ≤ 128 }
-    ensures { MatchResult result (λ v. v.items ≡ starts_by facts.now rows.now) (λ e. e ≡ OutOfMemory Bytes) }
-{
-    let mut places = last_places(heap, facts, Polarity::Negative)?;
-    push_bits(&mut places, rows)?;
-    Ok(places)
+    // Adds the places of zero and one rows.
+    fn push_bits(&self, places: &mut Vec<Place>) -> Result<(), AllocFailed<Place>>
+        ensures { OnOk result (places.new.items ≡ places.old.items ++ bit_places [] self.now.rows.now 0 self.now.rows.now) }
+    {
+        for (r, row) in self.rows.iter().enumerate() {
+            if row.rule.is_bit() {
+                places.push(at(RowId(r as u8), 0))?;
+            }
+        }
+        Ok(())
+    }
+
+    // The places where tokens start: the negative places of the last row, and those of zero and one rows.
+    pub(crate) fn start_places(&self, heap: Global) -> Result<Vec<Place>, Refusal>
+        ensures { MatchResult result (λ v. v.items ≡ starts_by self.now.facts.now self.now.rows.now) (λ e. e ≡ OutOfMemory Bytes) }
+    {
+        let mut places = self.last_places(heap, Polarity::Negative)?;
+        self.push_bits(&mut places)?;
+        Ok(places)
+    }
 }

@@ -11,7 +11,7 @@ use Rattle.machine.specs.Facts.{facts_at, signed_at, starts_by}
 use Rattle.machine.proofs.StartTables.{length-row-facts, starts_are, ends_are}
 use Rattle.theory.proofs.Assembled.{theory}
 use Rattle.machine.proofs.machine.Machine.new.Goals as goal
-use Rattle.machine.proofs.machine.Machine.new.Goals.{After-environments, After-as_slice-4}
+use Rattle.machine.proofs.machine.Machine.new.Goals.{After-environments}
 
 types_are : (c : After-environments) → c.as_slice.result.now ≡ vec_items c.args.holder.now.types
 types_are c = c.as_slice.ensures.value ∙ c.in_ok-types.ensures.items ∙ c.types.ensures
@@ -27,27 +27,12 @@ accepts c =
 pub row_facts-requires : goal.row_facts-requires
 row_facts-requires c = record { accepted = accepts c; surrounded = c.environments.ensures ∙ ap environments (sym (rows_are c)) }
 
--- as many facts as rows
-facts-count : (c : After-as_slice-4) → length (vec_items c.in_ok-facts.facts) ≡ length c.as_slice-2.result.now
-facts-count c = length-row-facts c.as_slice.result.now c.as_slice-2.result.now (vec_items c.in_ok-facts.facts) c.in_ok-facts.ensures
-
-pub start_places-requires : goal.start_places-requires
-start_places-requires c =
-    let ok = accepts (goal.at.start_places-requires c).After-environments in
-    let n = facts-count c in
-    let same = ap length c.as_slice-3.ensures.value in
-    record {
-      some = omega (arith, ok.some);
-      few = omega (arith, ok.few);
-      few_rows = omega (arith, ok.few, ap length c.as_slice-2.ensures.value, ap length c.as_slice-4.ensures.value);
-    }
-
-pub last_places-requires : goal.last_places-requires
-last_places-requires c =
-    let ok = accepts (goal.at.last_places-requires c).After-environments in
-    let n = facts-count (goal.at.last_places-requires c).After-as_slice-4 in
-    let same = ap length c.as_slice-5.ensures.value in
-    record { some = omega (arith, ok.some); few = omega (arith, ok.few) }
+-- as many facts as rows, and these neither none nor too many
+pub invariant_of-known : goal.invariant_of-known
+invariant_of-known c =
+    let ok = accepts (goal.at.invariant_of-known c).After-environments in
+    let n = length-row-facts c.as_slice.result.now c.as_slice-2.result.now (vec_items c.in_ok-facts.facts) c.in_ok-facts.ensures in
+    record { alike = omega (arith, c.as_slice-2.ensures, c.as_slice-3.ensures, c.as_slice-4.ensures); some = omega (arith, ok.some); few = omega (arith, ok.few) }
 
 pub invariant_of-result : goal.invariant_of-result
 invariant_of-result c =
@@ -64,8 +49,8 @@ invariant_of-result c =
     record {
       accepted = ap₂ valid held_types held_rows ∙ c.args.holder.now.accepted;
       known = known;
-      begun = c.in_ok-starts.ensures ∙ ap₂ starts_by c.as_slice-3.ensures.value c.as_slice-4.ensures.value ∙ starts_are es rows facts known some;
-      ended = c.in_ok-ends.ensures ∙ ap (λ (l : List RowFacts). signed_at l false (length l - 1)) c.as_slice-5.ensures.value ∙ ends_are es rows facts known some;
+      begun = c.in_ok-starts.ensures ∙ ap₂ starts_by c.as_slice-4.ensures.value c.as_slice-3.ensures.value ∙ starts_are es rows facts known some;
+      ended = c.in_ok-ends.ensures ∙ ap (λ (l : List RowFacts). signed_at l false (length l - 1)) c.as_slice-4.ensures.value ∙ ends_are es rows facts known some;
     }
 
 pub returns : goal.returns

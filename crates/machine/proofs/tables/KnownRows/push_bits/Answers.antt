@@ -3,12 +3,12 @@ use Rattle.std.proofs.Common.{◌+◌, [], ◌∷◌, ◌++◌, drop, vec_items,
 use Rattle.derivation.specs.declared.rows.Place.{Place}
 use Rattle.theory.specs.Ports.{bit_places}
 use Rattle.machine.proofs.StartTables.{bits_in, bits_out}
-use Rattle.machine.proofs.tables.push_bits.Goals as goal
-use Rattle.machine.proofs.tables.push_bits.Goals.{then-is_bit+in_ok-push, else-is_bit}
+use Rattle.machine.proofs.tables.KnownRows.push_bits.Goals as goal
+use Rattle.machine.proofs.tables.KnownRows.push_bits.Goals.{then-is_bit+in_ok-push, else-is_bit}
 
 pub loop-r-preserved : goal.loop-r-preserved
 loop-r-preserved c =
-    let rows = c.args.rows.now in
+    let rows = c.args.self.now.rows.now in
     let r = c.loop-r.r in
     let ps = vec_items c.loop-r.places in
     let left = bit_places [] rows (r + 1) (drop (r + 1) rows) in

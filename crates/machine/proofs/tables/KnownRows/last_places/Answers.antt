@@ -4,12 +4,12 @@ use Rattle.derivation.specs.declared.rows.Part.TheVariants.{Ty, Variable as Var}
 use Rattle.machine.specs.Facts.{is_positive, no_facts, signed, signed_held}
 use Rattle.machine.proofs.PlaceTests.{not_not, reversed-positive}
 use Rattle.machine.proofs.StartTables.{held_in, held_out}
-use Rattle.machine.proofs.tables.last_places.Goals as goal
-use Rattle.machine.proofs.tables.last_places.Goals.{then-has+in_ok-push_places, else-has}
+use Rattle.machine.proofs.tables.KnownRows.last_places.Goals as goal
+use Rattle.machine.proofs.tables.KnownRows.last_places.Goals.{then-has+in_ok-push_places, else-has}
 
 pub loop-x-preserved : goal.loop-x-preserved
 loop-x-preserved c =
-    let facts = c.args.facts.now in
+    let facts = c.args.self.now.facts.now in
     let last = length facts - 1 in
     let x = c.loop-x.x in
     let f = get_or facts x no_facts in
@@ -25,7 +25,7 @@ loop-x-preserved c =
 
 pub returns : goal.returns
 returns c =
-    let facts = c.args.facts.now in
+    let facts = c.args.self.now.facts.now in
     let last = length facts - 1 in
     let f = get_or facts last no_facts in
     let all : c.loop-x.x ≡ length facts = omega (arith, c.loop-x.auto.x-end, c.loop-x-test.false) in
