@@ -1,4 +1,5 @@
-// What all layers share: the gates, the refusals, the numbers that name rows, types, wires and ends, and sets of such numbers.
+// What all layers share: the gates, the refusals, the numbers that name rows, types, wires and ends, and sets of such
+// numbers.
 #![tactic(auto)]
 
 pub mod gate;

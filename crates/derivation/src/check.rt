@@ -16,6 +16,8 @@ use basics::sets::Mask;
 use std::alloc::Global;
 
 // Entry t, if the table has it; the qubit is no entry.
+// Here and below a number comes with the table whose entry it is. Each call has another number, so a struct of both would
+// be made anew for each.
 fn entry_at(types: &[TypeEntry], t: TypeId) -> Option<TypeEntry>
     ensures { result ≡ found types.now t.0 }
 {
@@ -272,7 +274,7 @@ impl Checked {
         (0..last).find(|q| !self.taken.has(*q))
     }
 
-    // Whether each row but the last is a premise.
+    // Whether each row but the last is a premise. A match, since none is the good answer here, which ok_or takes for the bad.
     pub(crate) fn all_used(&self) -> Result<(), Refusal>
         ensures { result_err result ≡ unused_fault self.now.rows.items }
     {

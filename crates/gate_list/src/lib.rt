@@ -17,7 +17,7 @@ use basics::refusal::Refusal;
 use target::interface::Target;
 use target::usage::Usage;
 
-// A gate with its wires in the order of its seats; behind them stands wire 0.
+// A gate with its wires in the order of its seats; behind them stands wire 0, since the records of a maker have one size.
 #[derive(Clone, Copy, PartialEq, Eq)]
 pub struct Applied {
     pub gate: Gate,

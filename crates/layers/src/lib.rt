@@ -64,7 +64,8 @@ fn greatest(depth: &[u32; 32], wires: &[Wire]) -> u32
     most
 }
 
-// Sets some wires to a layer.
+// Sets some wires to a layer. That they are below 32 is asked, as of greatest: a slice carries no fact, and a struct round it
+// would be taken apart at once.
 fn set_all(depth: &mut [u32; 32], wires: &[Wire], layer: u32)
     requires { all_below 32 (numbers_of wires.now) ≡ true }
     ensures { depth.new ≡ set_in depth.old (numbers_of wires.now) layer }

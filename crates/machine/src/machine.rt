@@ -432,7 +432,7 @@ fn lambda_down(r: RowId, x: RowId, z: RowId, i: u8) -> Place
     if z == x { at(r, i) } else { held(r, z, i) }
 }
 
-// The number of the first place that is p, or how many places there are if none is.
+// The number of the first place that is p, or how many places there are if none is: callers are promised a number.
 pub fn position(places: &[Place], p: Place) -> usize
     ensures { result ≡ wire_at places.now p }
 {

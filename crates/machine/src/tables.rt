@@ -35,7 +35,8 @@ impl Polarity {
     }
 }
 
-// The number of atoms of a type, and which of them are positive: bit i of the signs is set if atom i is.
+// The number of atoms of a type, and which of them are positive: bit i of the signs is set if atom i is. A derivation's Size
+// is another thing: it counts the positive atoms, with which a move could not do.
 #[derive(Clone, Copy)]
 pub(crate) struct TypeFacts {
     pub(crate) width: u8,
@@ -129,6 +130,7 @@ fn below_rows(rows: &[Row]) -> [Option<RowId>; 128]
     ensures size { length result ≡ 128 }
     ensures under { (q : ℕ) → q < 128 → slice_index_or result q None ≡ row_of (length rows.now) (below_from 0 rows.now q) }
 {
+    // An array as long as the most rows: it needs no memory.
     let mut below = [None; 128];
     for (r, row) in rows.iter().enumerate().rev() {
         mark(&mut below, RowId(r as u8), row.rule);

@@ -71,7 +71,8 @@ impl Register {
         wires.iter().all(|w| has(self.bits, *w))
     }
 
-    // Flips the last wire, where the bit of each wire before it is 1.
+    // Flips the last wire, where the bit of each wire before it is 1. That the wires are below 32 is asked, as of act: a slice
+    // carries no fact, and a struct round it would be taken apart at once.
     fn flip(&mut self, wires: &[Wire])
         requires { all_below 32 (numbers_of wires.now) ≡ true }
         ensures { held self.new ≡ flipped (numbers_of wires.now) (held self.old) }

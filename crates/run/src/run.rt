@@ -63,7 +63,7 @@ fn is_walkable<T: Target>(rule: Rule) -> bool
     }
 }
 
-// The lowest row whose gate a kind of target does not take.
+// The lowest row whose gate a kind of target does not take, if there is one.
 fn gate_not_taken<T: Target>(rows: &[Row]) -> Option<RowId>
     requires { length rows.now ≤ 128 }
     ensures { result ≡ option_map (λ n. record { 0 = n }) (not_taken T.taken 0 rows.now) }

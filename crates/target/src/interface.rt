@@ -42,7 +42,8 @@ pub trait Target {
         ensures value { result ≡ (view self.old).capacity }
         ensures same { self.new ≡ self.old };
 
-    // Starts anew with these wires in use, of which some are given and some are one.
+    // Starts anew with these wires in use, of which some are given and some are one. Three masks side by side are the form
+    // of the interface, for devices too.
     fn begin(&mut self, used: u32, given: u32, ones: u32) -> Result<(), Refusal>
         ensures obeys { Obeys (begin_fault (view self.old) used given ones) (begun_view begun (view self.old) used given ones) result (view self.new) }
         ensures kept { Kept result self.old self.new };

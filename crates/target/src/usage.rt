@@ -25,7 +25,8 @@ impl Usage {
         Ok(Usage { used, count: 0 })
     }
 
-    // After one gate more, or what is wrong with it: its code, its wires, or the number of gates so far.
+    // After one gate more, or what is wrong with it: its code, its wires, or the number of gates so far. It is told whether
+    // the code is taken, since a usage is of no kind.
     pub fn applied(
         self,
         taken: bool,

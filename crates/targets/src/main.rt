@@ -107,6 +107,7 @@ fn show_wire(
     w: Wire,
 ) -> Result<(), AllocError> {
     let mut gates = String::new(heap);
+    // A list is asked record by record.
     for i in 0..list.count() as usize {
         if let Some(record) = list.record(i) {
             if seats(&record).contains(&w) {

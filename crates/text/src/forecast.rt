@@ -39,7 +39,8 @@ fn last_places(heap: Global, machine: &Machine, times: u32) -> Result<Vec<Place>
     Ok(places)
 }
 
-// Appends a line for each end: its number and the wire that will stand there.
+// Appends a line for each end: its number and the wire that will stand there. Shared with the lines of wires, it would take
+// the line as a closure, whose clause would be longer than the loop.
 fn push_end_lines(text: &mut String, ends: &[Place], places: &[Place]) -> Result<(), AllocError>
     ensures { OnOk result (string_bytes text.new ≡ string_bytes text.old ++ end_lines 0 (map (wire_at places.now) ends.now)) }
 {
@@ -67,6 +68,7 @@ pub fn forecast(heap: Global, bytes: &[u8]) -> Result<String, AllocError>
     ensures text { IfOk result (λ s. string_bytes s ≡ forecast_text bytes.now) }
     ensures theory { Promised bytes.now }
 {
+    // As in booking: shared, these lines would take what is said of a holder as a closure, whose clause would be longer.
     match held(heap, bytes)? {
         Ok(holder) => held_text(heap, &holder),
         Err(refusal) => refusal_line(heap, refusal),

@@ -13,7 +13,7 @@ loop-end-preserved c =
     let end = c.loop-end.end-counter in
     let wires = map (wire_at c.args.places.now) ends in
     let wire : c.position-wire.result ≡ get_or wires end 0 =
-        c.position-wire.ensures ∙ sym (get_or-map (wire_at c.args.places.now) ends end no_place 0 c.loop-end-test.true) in
+    c.position-wire.ensures ∙ sym (get_or-map (wire_at c.args.places.now) ends end no_place 0 c.loop-end-test.true) in
     rw wire at c.in_ok-write.ensures.bytes
     ∙ numbered-more end_line (string_bytes c.args.text.now) wires end 0 (subst⁻¹ (λ (n : ℕ). end < n) (length-map ends (wire_at c.args.places.now)) c.loop-end-test.true) c.loop-end.invariant
 
