@@ -17,7 +17,7 @@ use Rattle.target.specs.Interface.{disjoint, sets_fit, shares, within}
 use Rattle.target.proofs.MaskLaws.{has-and}
 use Rattle.target.proofs.WireLaws.{not_shared}
 use Rattle.channel_map.specs.declared.channels.Channels.{Channels}
-use Rattle.channel_map.specs.Channels.{GreatestWidth, Table, channel_of, channels_from, channels_of, down_from, entry_fault, fitting, table_fault, up_from, wires_from, wires_of}
+use Rattle.channel_map.specs.Channels.{GreatestWidth, Table, channel_at, channel_of, channels_from, channels_of, down_from, entry_fault, fitting, table_fault, up_from, wires_from, wires_of}
 
 -- masks
 
@@ -347,6 +347,10 @@ module _ (t : Table) where
       let r = and_parts _ _ q.1 in
       and_from _ _ (lt-ltb _ _ (channels_fit n used (ltb-true used _ p.0)))
       (and_from _ _ (channels_disjoint given ones q.0) (and_from _ _ (channels_within given used r.0) (channels_within ones used r.1)))
+
+-- the channel of a wire, as an answer
+pub channel_at_lem : (xs : List ℕ) → length xs ≡ 32 → (w : ℕ) → w < 32 → Some (record { 0 = slice_index xs w }) ≡ channel_at xs w
+channel_at_lem xs whole w h = ap (λ c. Some (record { 0 = c })) (get_or_default xs w 0 w (omega arith)) ∙ sym (cond-true (nat_lt w 32) (Some (record { 0 = channel_of xs w })) None (lt-ltb w 32 h))
 
 -- the check of a table, entry by entry
 

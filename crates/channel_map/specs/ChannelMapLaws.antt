@@ -10,7 +10,7 @@ use Rattle.basics.specs.Gates.{arity}
 use Rattle.derivation.specs.Rows.{all_below, all_in}
 use Rattle.basics.specs.Sets.{has, only, union, without}
 use Rattle.basics.proofs.SetLaws.{has-only, has-union, has-without}
-use Rattle.target.specs.Interface.{Commutes, Obeys, View, apart_from, applied_view, apply_fault, begin_fault, begun_view, seated, sets_fit, shares}
+use Rattle.target.specs.Interface.{Commutes, Kept, Obeys, View, apart_from, applied_view, apply_fault, begin_fault, begun_view, seated, sets_fit, shares}
 use Rattle.target.proofs.MaskLaws.{all_below_lem, has_below}
 use Rattle.target.proofs.WireLaws.{arity_few}
 use Rattle.channel_map.specs.Channels.{Table, channel_of, channels_of, fitting, mapped_applied, mapped_begun, mapped_view, seatable, wires_of}
@@ -162,3 +162,8 @@ module _ (t : Table) where
       → Obeys (begin_fault (mapped_view t v) used given ones) (begun_view (mapped_begun begun) (mapped_view t v) used given ones) r (mapped_view t after)
   begin_by begun used given ones width v after r small wide none eu eg eo h =
       begin-with begun used given ones v after r small (ap (λ n. sets_fit n used given ones) (sym wide) ∙ fits-from (sets_fit width used given ones) none) (rw (eu, eg, eo) at h)
+
+-- what is kept beneath is kept
+pub kept_by : {A B : Type 0} (f : A → B) (r : Result (Unit {0}) Refusal) (a b : A) → Kept r a b → Kept r (f a) (f b)
+kept_by f (Ok u) a b k = tt
+kept_by f (Err e) a b k = ap f k

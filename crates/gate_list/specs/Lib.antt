@@ -1,3 +1,4 @@
 pub mod GateList
 pub mod Laws
 pub mod GateListLaws
+pub mod RecordLaws
