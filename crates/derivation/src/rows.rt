@@ -99,7 +99,7 @@ pub struct Record {
     pub rule: Option<Rule>,
 }
 
-// A part of a row: its type, or a variable of its environment.
+// A part of a row: its type, or a variable of its environment. Neither is a thing that is missing, so this is no Option.
 #[derive(Clone, Copy, Debug, PartialEq, Eq)]
 pub enum Part {
     Ty,
