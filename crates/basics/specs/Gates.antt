@@ -1,5 +1,5 @@
 -- The facts of each gate: its code, its word in OpenQASM 2.0 and its arity.
-use Rattle.std.specs.Prelude.{◌≡◌, ℕ, cond, List, Some, None, codes, Option, Result, ◌==◌}
+use Rattle.std.specs.Prelude.{◌≡◌, ℕ, cond, List, ◌++◌, Some, None, codes, decimal, Option, Result, ◌==◌}
 use Rattle.std.specs.Option.{ok_or}
 use Rattle.basics.specs.declared.gate.Gate.{Gate}
 use Rattle.basics.specs.declared.gate.UnknownCode.{UnknownCode}
@@ -38,3 +38,7 @@ gate_of c = cond (c == 1) (Some H) (cond (c == 2) (Some S) (cond (c == 3) (Some 
 -- a code is answered by its gate, or is handed back if there is none
 abbrev pub Decodes : ℕ → Result Gate UnknownCode → Type 0
 Decodes c r = r ≡ ok_or (gate_of c) (record { 0 = c })
+
+-- a code that is no gate's, as text
+abbrev pub unknown_words : UnknownCode → List ℕ
+unknown_words c = codes "no gate has code " ++ decimal c.0

@@ -1,6 +1,6 @@
 // The gates of the calculus: h, s, t, x and z on one wire, cx and cz on two, ccx on three.
 ghost use Rattle.std.specs.Prelude.{◌≡◌, Some};
-ghost use Rattle.basics.specs.Gates.{Decodes, arity as arity_of, code as code_of, word as word_of};
+ghost use Rattle.basics.specs.Gates.{Decodes, arity as arity_of, code as code_of, unknown_words, word as word_of};
 
 use std::error::Error;
 use std::fmt;
@@ -19,7 +19,7 @@ pub enum Gate {
 }
 
 impl Gate {
-    // The number that stands for the gate in the byte format. A gate has more than one number, so this is no `From`.
+    // The number that stands for the gate in the byte format. A public call: a `From` beside it would say the same twice.
     pub fn code(self) -> u8
         ensures { result ≡ code_of self }
     {
@@ -96,8 +96,11 @@ impl fmt::Display for Gate {
 }
 
 impl fmt::Display for UnknownCode {
+    ghost output = { λ unknown. Some (unknown_words unknown) };
+
     fn fmt<W: fmt::Write>(&self, f: &mut fmt::Formatter<W>) -> fmt::Result {
-        write!(f, "no gate has code {}", self.0)
+        let code = self.0;
+        write!(f, "no gate has code {code}")
     }
 }
 

@@ -73,7 +73,8 @@ impl Channels {
         Some(Wire(w as u8))
     }
 
-    // The channels of a set of wires. A loop: enumerate, filter and fold would say no less.
+    // The channels of a set of wires. A loop of one branch, where a chain would have a closure for the test and one for the
+    // fold.
     pub(crate) fn channel_set(&self, wires: u32) -> u32
         ensures { result ≡ channels_of self.now.table wires }
     {

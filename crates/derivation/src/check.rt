@@ -140,7 +140,7 @@ impl Checked {
         RowId(self.rows.len() as u8)
     }
 
-    // The type of row r, or the qubit where there is no such row.
+    // The type of row r, or the qubit where there is no such row, as in the definition: no rule is asked of such a row.
     fn type_at(&self, r: RowId) -> TypeId
         ensures { result.0 ≡ type_at self.now.rows.items r.0 }
     {
@@ -148,7 +148,7 @@ impl Checked {
         row.map_or(TypeId(0), |row| row.ty)
     }
 
-    // The environment of row r, or none where there is no such row.
+    // The environment of row r, or none where there is no such row, as in the definition.
     pub(crate) fn env_at(&self, r: RowId) -> u128
         ensures { result ≡ slice_index (environments self.now.rows.items) r.0 }
     {
@@ -195,6 +195,20 @@ impl Checked {
         }
     }
 
+    // Whether entry t of the table is of this kind, with the types of two rows as its parts.
+    fn joins(
+        &self,
+        types: &[TypeEntry],
+        kind: TypeKind,
+        t: TypeId,
+        left: RowId,
+        right: RowId,
+    ) -> bool
+        ensures { result ≡ is_node types.now kind t.0 (type_at self.now.rows.items left.0) (type_at self.now.rows.items right.0) }
+    {
+        is_node(types, kind, t, self.type_at(left), self.type_at(right))
+    }
+
     // Whether type t is what the rule gives.
     fn fits(&self, types: &[TypeEntry], t: TypeId, rule: Rule) -> bool
         ensures { result ≡ fits_rule types.now self.now.rows.items t.0 rule }
@@ -203,42 +217,16 @@ impl Checked {
             Rule::Variable => true,
             Rule::Zero | Rule::One => t.0 == 0,
             Rule::Gate(gate) => is_gate(types, gate.arity(), t),
-            Rule::Lambda { premise, x } => {
-                is_node(
-                    types,
-                    TypeKind::Arrow,
-                    t,
-                    self.type_at(x),
-                    self.type_at(premise),
-                )
-            }
+            Rule::Lambda { premise, x } => self.joins(types, TypeKind::Arrow, t, x, premise),
             Rule::PairLambda { premise, x, y } => {
-                is_pair_arrow(
-                    types,
-                    t,
-                    self.type_at(x),
-                    self.type_at(y),
-                    self.type_at(premise),
-                )
+                let to = self.type_at(premise);
+                is_pair_arrow(types, t, self.type_at(x), self.type_at(y), to)
             }
             Rule::Apply { function, argument } => {
-                is_node(
-                    types,
-                    TypeKind::Arrow,
-                    self.type_at(function),
-                    self.type_at(argument),
-                    t,
-                )
+                let (f, from) = (self.type_at(function), self.type_at(argument));
+                is_node(types, TypeKind::Arrow, f, from, t)
             }
-            Rule::Pair { left, right } => {
-                is_node(
-                    types,
-                    TypeKind::Pair,
-                    t,
-                    self.type_at(left),
-                    self.type_at(right),
-                )
-            }
+            Rule::Pair { left, right } => self.joins(types, TypeKind::Pair, t, left, right),
         }
     }
 

@@ -119,7 +119,7 @@ impl Measured<'_> {
         requires { Accepted self.now.types.now self.now.rows.now }
         ensures { result ≡ length (places_of self.now.types.now self.now.rows.now) }
     {
-        // An array as long as the most rows, and no Vec: this call needs no memory and cannot fail.
+        // An array as long as the most rows: with a Vec the count would take the heap, and answer a Result.
         let mut held = [0; 128];
         let mut count = 0;
         for (r, row) in self.rows.iter().enumerate() {

@@ -186,6 +186,7 @@ impl Holder {
     pub fn starts(&self, heap: Global) -> Result<Vec<Start>, Refusal>
         ensures { MatchResult result (λ v. v.items ≡ starts_of self.now.types.items self.now.rows.items) (λ e. e ≡ OutOfMemory Bytes) }
     {
-        wire_starts(heap, self.rows.as_slice(), self.counts.wires)
+        let starts = wire_starts(heap, self.rows.as_slice(), self.counts.wires)?;
+        Ok(starts)
     }
 }

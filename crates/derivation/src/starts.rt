@@ -1,12 +1,9 @@
 // How the wires of a derivation start.
-ghost use Rattle.std.specs.Prelude.{◌≡◌, ◌-◌, ◌≤◌, ◌++◌, length, replicate, IfOk, MatchResult};
+ghost use Rattle.std.specs.Prelude.{◌≡◌, ◌-◌, ◌≤◌, ◌++◌, length, replicate, IfOk};
 ghost use Rattle.derivation.specs.Starts.{bit_starts};
-ghost use Rattle.basics.specs.declared.refusal.Layer.TheVariants.{Bytes};
-ghost use Rattle.basics.specs.declared.refusal.Refusal.TheVariants.{OutOfMemory};
 ghost use Rattle.derivation.specs.declared.rows.Start.TheVariants.{Given};
 
 use crate::rows::{Row, Start};
-use basics::refusal::Refusal;
 use std::alloc::{AllocError, Global};
 
 // How the wires of the zero and one rows start, by rising row.
@@ -17,9 +14,9 @@ fn bit_starts(heap: Global, rows: &[Row]) -> Result<Vec<Start>, AllocError>
 }
 
 // How each of the wires starts: those that no zero or one row starts are given, and come first.
-pub(crate) fn wire_starts(heap: Global, rows: &[Row], wires: u8) -> Result<Vec<Start>, Refusal>
+pub(crate) fn wire_starts(heap: Global, rows: &[Row], wires: u8) -> Result<Vec<Start>, AllocError>
     requires { length (bit_starts rows.now) ≤ wires }
-    ensures { MatchResult result (λ v. v.items ≡ replicate (wires - length (bit_starts rows.now)) Given ++ bit_starts rows.now) (λ e. e ≡ OutOfMemory Bytes) }
+    ensures { IfOk result (λ v. v.items ≡ replicate (wires - length (bit_starts rows.now)) Given ++ bit_starts rows.now) }
 {
     let bits = bit_starts(heap, rows)?;
     let given = wires as usize - bits.len();

@@ -25,7 +25,8 @@ pub struct Applied {
 }
 
 // The records that the maker handed over. The first of them, as many as the usage counts, hold the gates since begin.
-// A count beside them, and no pushes: begin and apply are handed no allocator, so the memory is the maker's.
+// A count beside them, and no pushes: the list is promised to have the records that were handed over, however many of them
+// hold gates.
 #[derive(Drop)]
 pub struct GateList {
     records: Vec<Applied>,

@@ -51,8 +51,8 @@ impl Layers {
     }
 }
 
-// The greatest number of some wires. A loop: for a chain of map and max, or a fold, it is not found that each wire that
-// the closure is handed is within the array.
+// The greatest number of some wires. A loop: of map and max, and of a fold, the closure's index stayed open in the proof, and
+// of filter_map, get and max that the result is the definition's.
 fn greatest(depth: &[u32; 32], wires: &[Wire]) -> u32
     requires { all_below 32 (numbers_of wires.now) ≡ true }
     ensures { result ≡ greatest_in depth.now (numbers_of wires.now) }

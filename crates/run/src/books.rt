@@ -11,8 +11,8 @@ use derivation::rows::Place;
 use machine::machine::{Machine, Seat};
 use std::alloc::{AllocError, Global};
 
-// The wires that wait at the seats of a row: all of them as a set, and by seat. A list would need memory, and no move
-// allocates: no gate has more than three seats. The set says which of them are held.
+// The wires that wait at the seats of a row: all of them as a set, and by seat. No gate has more than three seats,
+// and no move allocates. How many are held is how many ones the set has.
 #[derive(Clone, Copy)]
 pub(crate) struct Waiting {
     pub(crate) wires: u32,
@@ -27,8 +27,8 @@ pub(crate) struct Books {
     pub(crate) ready: u32,
 }
 
-// The machine stands beside the books, and `fit` ties them. It is asked of each step, and is no field of the books: if they
-// held the machine, `new` could not settle the wires over the starts that the machine lends.
+// The machine stands beside the books, and `fit` ties them. As a ghost field of a struct that lends both it would be proved
+// where each such struct is made, which is as often as it is asked of a step.
 impl Books {
     // The books of tokens at their starts. The machine's derivation has so many rows.
     pub(crate) fn new(heap: Global, machine: &Machine, rows: usize) -> Result<Books, AllocError>

@@ -35,8 +35,8 @@ fn first_wires(n: u8) -> u32
     if n < 32 { (1u32 << n) - 1 } else { u32::MAX }
 }
 
-// The wires that start given, and those that start at a one row. One pass makes both sets: a chain would go over the
-// starts once for each.
+// The wires that start given, and those that start at a one row. One pass makes both sets: made one by one they
+// would be this loop with the wanted start as a parameter.
 fn start_sets(starts: &[Start]) -> (u32, u32)
     requires { length starts.now ≤ 32 }
     ensures { result ≡ (mask_l (map is_given starts.now), mask_l (map is_one starts.now)) }

@@ -6,6 +6,7 @@ ghost use Rattle.target.specs.Interface.{Coded, Commutes, Kept, Obeys, View, app
 use basics::gate::Gate;
 use basics::numbers::Wire;
 use basics::refusal::Refusal;
+use basics::sets::Mask;
 
 // What a maker of targets defines and proves. A target has a state, a set of wires in use, a count of gates since
 // begin, a width and a capacity; users know it only by these.
@@ -29,7 +30,7 @@ pub trait Target {
     fn takes(gate: Gate) -> bool
         ensures { result ≡ taken gate }
     {
-        (Self::CODES >> gate.code()) & 1 == 1
+        u128::from(Self::CODES).has(gate.code())
     }
 
     // How many wires the target has room for.

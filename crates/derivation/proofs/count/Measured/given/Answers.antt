@@ -13,11 +13,6 @@ loop-x-init c =
     let small = size_small _ _ c.size-last.ensures (m.small _ (m.known _ (omega (arith, m.some)))) in
     record { counted = given_none m.types.now m.rows.now c.args.env _ c.size-last.ensures; small = omega (arith, small.0) }
 
-pub overflow_add-count : goal.overflow_add-count
-overflow_add-count c =
-    let m = c.args.self.now in
-    omega (arith, m.few, (size_small _ _ c.size.ensures (m.small _ (m.known c.loop-x.x c.loop-x-test.true))).1)
-
 pub loop-x-preserved : goal.loop-x-preserved
 loop-x-preserved c =
     let m = c.args.self.now in

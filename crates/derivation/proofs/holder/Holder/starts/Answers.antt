@@ -1,6 +1,5 @@
 -- The holder knows the number of its wires, and the bits among them are counted.
 use Rattle.std.proofs.Common.{length, vec_items, ap, ◌∙◌, arith}
-use Rattle.std.proofs.lemmas.Result.{MatchResult-weaker}
 use Rattle.derivation.specs.Starts.{bit_starts}
 use Rattle.derivation.proofs.StartLaws.{bit-starts_le, starts-given}
 use Rattle.derivation.proofs.holder.Holder.starts.Goals as goal
@@ -13,4 +12,4 @@ wire_starts-requires c =
 pub returns : goal.returns
 returns c =
     let h = c.args.self.now in
-    MatchResult-weaker c.wire_starts.result c.wire_starts.ensures (λ v e. e ∙ starts-given (vec_items h.types) c.as_slice.ensures.value h.wired) (λ e m. m)
+    c.in_ok-starts.ensures ∙ starts-given (vec_items h.types) c.as_slice.ensures.value h.wired
