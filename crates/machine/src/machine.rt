@@ -26,7 +26,7 @@ use derivation::types::TypeEntry;
 use std::alloc::Global;
 
 // A seat of a gate, where a token waits for those of the gate's other seats.
-#[derive(Clone, Copy)]
+#[derive(Clone, Copy, Debug, PartialEq, Eq)]
 pub struct Seat {
     pub row: RowId,
     pub number: u8,
@@ -103,7 +103,7 @@ impl Machine {
     }
 
     // The type of row r. The definitions give a row that there is not a qubit's: with an Option here each caller
-    // would need a proof that the rows of its rule are there.
+    // would have a `?` that never fires.
     fn ty(&self, r: RowId) -> TypeFacts
         ensures value { result ≡ facts_of (within self.now tree_at r.0) }
         ensures few { result.width ≤ 16 }
@@ -249,7 +249,8 @@ impl Machine {
     }
 
     // From an atom of variable z of a pair lambda's body: x and y are bound.
-    // On the way down s and r, the row below, are of two rows that no fact ties: a struct of both would only move words.
+    // A struct of s and r, the row below, would be made in downward and taken apart in each method on the way down,
+    // whose contracts speak of s alone and of r alone.
     fn pair_lambda_down(&self, s: Spot, r: RowId, x: RowId, y: RowId, z: RowId) -> Place
         ensures { result ≡ (if nat_eq z.0 x.0 then type_place r.0 s.place.atom.0 else (if nat_eq z.0 y.0 then type_place r.0 (within self.now width_of x.0 + s.place.atom.0) else held_place r.0 z.0 s.place.atom.0)) }
     {
@@ -407,8 +408,10 @@ impl Machine {
     pub fn end_number(&self, p: Place) -> Option<EndId>
         ensures { result ≡ end_at (ends_of self.now.types.items self.now.rows.items) p }
     {
-        let n = self.ends.iter().position(|q| *q == p)?;
-        u8::try_from(n).ok().map(EndId)
+        match self.ends.iter().position(|q| *q == p) {
+            Some(n) => u8::try_from(n).ok().map(EndId),
+            None => None,
+        }
     }
 }
 

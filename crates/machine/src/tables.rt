@@ -1,21 +1,18 @@
 // What a machine knows of a derivation's types and rows before anything moves.
-ghost use Rattle.std.specs.Prelude.{◌≡◌, ℕ, ◌+◌, ◌-◌, ◌^◌, ◌<◌, ◌≤◌, true, not, [], ◌++◌, map, length, MatchResult, OnOk, slice_index_or};
+ghost use Rattle.std.specs.Prelude.{◌≡◌, ℕ, ◌+◌, ◌-◌, ◌^◌, ◌<◌, ◌≤◌, true, not, [], ◌++◌, map, length, IfOk, OnOk, slice_index_or};
 ghost use Rattle.derivation.specs.Accepted.{Accepted, Table};
 ghost use Rattle.derivation.specs.Judgements.{rule_at};
 ghost use Rattle.derivation.specs.Places.{numbers};
 ghost use Rattle.derivation.specs.Rows.{all_below, environments, premises};
 ghost use Rattle.derivation.specs.Trees.{trees};
-ghost use Rattle.basics.specs.declared.refusal.Layer.TheVariants.{Bytes};
-ghost use Rattle.basics.specs.declared.refusal.Refusal.TheVariants.{OutOfMemory};
 ghost use Rattle.machine.specs.Facts.{atom_polarity, facts_at, facts_of, is_positive, joined_facts, marked, polarity_of, row_of, signed, signed_at, starts_by};
 ghost use Rattle.theory.specs.Ports.{at as type_place, below_from, bit_places, held as held_place};
 
 use basics::numbers::{Atom, RowId};
-use basics::refusal::Refusal;
 use basics::sets::Mask;
 use derivation::rows::{Part, Place, Row, Rule};
 use derivation::types::{TypeEntry, TypeKind};
-use std::alloc::{AllocFailed, Global};
+use std::alloc::{AllocError, Global};
 
 // Whether a token at a place climbs, as at a negative one, or descends.
 #[derive(Clone, Copy, Debug, PartialEq, Eq)]
@@ -88,9 +85,9 @@ fn joined(kind: TypeKind, left: TypeFacts, right: TypeFacts) -> TypeFacts
 // The facts of a table's types, from entry 0 on.
 // Not one function with derivation's type_sizes, which checks each entry against those before it and can refuse;
 // this reads a checked table. A shared loop would take its step as a closure, and be longer than both.
-fn type_facts(heap: Global, types: &[TypeEntry]) -> Result<Vec<TypeFacts>, Refusal>
+fn type_facts(heap: Global, types: &[TypeEntry]) -> Result<Vec<TypeFacts>, AllocError>
     requires { Table types.now }
-    ensures { MatchResult result (λ v. v.items ≡ map facts_of (trees types.now)) (λ e. e ≡ OutOfMemory Bytes) }
+    ensures { IfOk result (λ v. v.items ≡ map facts_of (trees types.now)) }
 {
     let mut facts = Vec::new(heap);
     facts.push(TypeFacts::QUBIT)?;
@@ -130,7 +127,7 @@ fn below_rows(rows: &[Row]) -> [Option<RowId>; 128]
     ensures size { length result ≡ 128 }
     ensures under { (q : ℕ) → q < 128 → slice_index_or result q None ≡ row_of (length rows.now) (below_from 0 rows.now q) }
 {
-    // An array as long as the most rows: it needs no memory.
+    // With a Vec of the heap this would answer a Result, and fill the Vec with None first, which is this array.
     let mut below = [None; 128];
     for (r, row) in rows.iter().enumerate().rev() {
         mark(&mut below, RowId(r as u8), row.rule);
@@ -144,10 +141,10 @@ pub(crate) fn row_facts(
     types: &[TypeEntry],
     rows: &[Row],
     envs: &[u128],
-) -> Result<Vec<RowFacts>, Refusal>
+) -> Result<Vec<RowFacts>, AllocError>
     requires accepted { Accepted types.now rows.now }
     requires surrounded { envs.now ≡ environments rows.now }
-    ensures { MatchResult result (λ v. v.items ≡ map (facts_at types.now rows.now) (numbers 0 (length rows.now))) (λ e. e ≡ OutOfMemory Bytes) }
+    ensures { IfOk result (λ v. v.items ≡ map (facts_at types.now rows.now) (numbers 0 (length rows.now))) }
 {
     let table = type_facts(heap, types)?;
     let below = below_rows(rows);
@@ -172,11 +169,7 @@ struct PartFacts {
 
 impl PartFacts {
     // Adds the places in the part whose atoms have the polarity.
-    fn push_places(
-        self,
-        places: &mut Vec<Place>,
-        polarity: Polarity,
-    ) -> Result<(), AllocFailed<Place>>
+    fn push_places(self, places: &mut Vec<Place>, polarity: Polarity) -> Result<(), AllocError>
         ensures { OnOk result (places.new.items ≡ places.old.items ++ signed (is_positive polarity) self.ty.signs self.row.0 self.part self.ty.width) }
     {
         for i in 0..self.ty.width {
@@ -231,8 +224,8 @@ impl KnownRows<'_> {
         &self,
         heap: Global,
         polarity: Polarity,
-    ) -> Result<Vec<Place>, Refusal>
-        ensures { MatchResult result (λ v. v.items ≡ signed_at self.now.facts.now (not (is_positive polarity)) (length self.now.facts.now - 1)) (λ e. e ≡ OutOfMemory Bytes) }
+    ) -> Result<Vec<Place>, AllocError>
+        ensures { IfOk result (λ v. v.items ≡ signed_at self.now.facts.now (not (is_positive polarity)) (length self.now.facts.now - 1)) }
     {
         let last = self.facts.len() - 1;
         let row = RowId(last as u8);
@@ -258,7 +251,7 @@ impl KnownRows<'_> {
     }
 
     // Adds the places of zero and one rows.
-    fn push_bits(&self, places: &mut Vec<Place>) -> Result<(), AllocFailed<Place>>
+    fn push_bits(&self, places: &mut Vec<Place>) -> Result<(), AllocError>
         ensures { OnOk result (places.new.items ≡ places.old.items ++ bit_places [] self.now.rows.now 0 self.now.rows.now) }
     {
         for (r, row) in self.rows.iter().enumerate() {
@@ -270,8 +263,8 @@ impl KnownRows<'_> {
     }
 
     // The places where tokens start: the negative places of the last row, and those of zero and one rows.
-    pub(crate) fn start_places(&self, heap: Global) -> Result<Vec<Place>, Refusal>
-        ensures { MatchResult result (λ v. v.items ≡ starts_by self.now.facts.now self.now.rows.now) (λ e. e ≡ OutOfMemory Bytes) }
+    pub(crate) fn start_places(&self, heap: Global) -> Result<Vec<Place>, AllocError>
+        ensures { IfOk result (λ v. v.items ≡ starts_by self.now.facts.now self.now.rows.now) }
     {
         let mut places = self.last_places(heap, Polarity::Negative)?;
         self.push_bits(&mut places)?;
