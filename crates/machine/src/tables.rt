@@ -148,6 +148,8 @@ pub(crate) fn row_facts(
 {
     let table = type_facts(heap, types)?;
     let below = below_rows(rows);
+    // Tried with map and collect: with no clauses at the closure it stays open that the index is in the table, and with
+    // a requires alone what list is collected. With an ensures too the closure is longer than this loop.
     let mut facts = Vec::new(heap);
     for (row, (env, below)) in rows.iter().zip(envs.iter().zip(&below)) {
         facts.push(RowFacts {
