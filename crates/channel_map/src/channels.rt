@@ -98,7 +98,8 @@ impl Channels {
     }
 
     // The channels of a gate's wires, if these are at most three and each below 32; behind them stands wire 0. The
-    // memory is fixed, since apply is handed no allocator.
+    // memory is fixed, since apply is handed no allocator. A gate list's seats are these without the table and without a
+    // refusal: shared, both would hand in a closure.
     pub(crate) fn seats(&self, wires: &[Wire]) -> Option<[Wire; 3]>
         ensures { MatchOption result (seatable (numbers_of wires.now) ≡ false) (λ b. (seatable (numbers_of wires.now) ≡ true) × (length b ≡ 3) × (numbers_of (take (length wires.now) b) ≡ map (channel_of self.now.table) (numbers_of wires.now))) }
     {

@@ -1,13 +1,11 @@
 -- What the code learns of a type table while it checks one entry.
-use Rattle.std.proofs.Common.{◌≡◌, ℕ, zero, suc, ◌+◌, ◌<◌, ◌≤◌, Bool, true, false, cond, ◌&&◌, ◌||◌, eqb, ltb, List, [], ◌∷◌, ◌++◌, map, length, get_or, take, Some, None, Option, sym, refl, ap, ◌∙◌, subst, ap₂, ⊎_elim, arith}
+use Rattle.std.proofs.Common.{◌≡◌, ℕ, suc, ◌+◌, ◌<◌, ◌≤◌, Bool, true, false, cond, ◌&&◌, ◌||◌, eqb, ltb, List, [], ◌∷◌, ◌++◌, map, length, get_or, take, Some, None, Option, sym, refl, ap, ◌∙◌, subst, ap₂, arith}
 use mathlib.Core.Path.{subst⁻¹}
 use Rattle.std.proofs.lemmas.List.{get_or-map, length-map, map_push, take_more}
 use Rattle.std.specs.List.{list_any}
-use Rattle.std.specs.List.{slice_get}
-use Rattle.std.specs.Option.{ok_or, option_eq}
+use Rattle.std.specs.Option.{ok_or}
 use Rattle.std.specs.Result.{MatchResult}
-use Rattle.std.proofs.lemmas.Option.{slice_get-get_or, slice_get_past}
-use Rattle.std.proofs.lemmas.Bool.{cases_lt, lt-leb, le-ltb, lt-ltb, ltb-true, ltb-false}
+use Rattle.std.proofs.lemmas.Bool.{lt-leb, le-ltb, lt-ltb, ltb-true, ltb-false}
 use Rattle.derivation.specs.declared.types.TypeKind.{TypeKind}
 use Rattle.derivation.specs.declared.types.TypeKind.TheVariants.{Arrow, Pair}
 use Rattle.derivation.specs.declared.types.TypeEntry.{TypeEntry}
@@ -15,8 +13,7 @@ use Rattle.derivation.specs.declared.types.Size.{Size}
 use Rattle.basics.specs.declared.refusal.Refusal.TheVariants.{RepeatedType, TooManyAtoms}
 use denote.Enum.Bare.{sameb}
 use Rattle.derivation.specs.contracts.types.TypeKind.{the_type as the_kinds}
-use Rattle.derivation.specs.Trees.{Tree, qubit, node, atoms, trees, unfolded, no_entry, same_kind, same_entry, listed, type_fault}
-use Rattle.derivation.specs.Rows.{found, is_node}
+use Rattle.derivation.specs.Trees.{Tree, qubit, node, atoms, trees, unfolded, same_kind, same_entry, listed, type_fault}
 use Rattle.derivation.specs.Weights.{size_of, joined_size}
 use Rattle.derivation.proofs.GrowthLaws.{length-grown, grown-push}
 use Rattle.derivation.proofs.WeightLaws.{positives_le}
@@ -30,17 +27,6 @@ kind-eq Pair Pair = refl
 
 pub entry-eq : (d e : TypeEntry) → (sameb the_kinds d.kind e.kind && (eqb d.left.0 e.left.0 && eqb d.right.0 e.right.0)) ≡ same_entry d e
 entry-eq d e = ap (λ b. b && (eqb d.left.0 e.left.0 && eqb d.right.0 e.right.0)) (kind-eq d.kind e.kind)
-
--- entry t, compared by an `==` that is the definition's
-module _ (E : TypeEntry → TypeEntry → Bool) (same : (d e : TypeEntry) → E d e ≡ same_entry d e) (e : TypeEntry) where
-  listed_at-eq : (es : List TypeEntry) (t : ℕ) → option_eq E (slice_get es t) (Some e) ≡ (ltb t (length es) && same_entry (get_or es t no_entry) e)
-  listed_at-eq es t =
-      ⊎_elim (λ l. rw (slice_get-get_or es t no_entry l, lt-ltb t (length es) l) (same (get_or es t no_entry) e)) (λ l. rw (slice_get_past es t l, le-ltb t (length es) l) refl)
-      (cases_lt t (length es))
-
-  pub node-eq : (es : List TypeEntry) (t : ℕ) → option_eq E (found es t) (Some e) ≡ is_node es e.kind t e.left.0 e.right.0
-  node-eq es zero = refl
-  node-eq es (suc t) = listed_at-eq es t
 
 -- what `contains` computes
 pub listed-any : (ds : List TypeEntry) (e : TypeEntry) → list_any (λ d. sameb the_kinds d.kind e.kind && (eqb d.left.0 e.left.0 && eqb d.right.0 e.right.0)) ds ≡ listed ds e

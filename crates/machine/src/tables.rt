@@ -99,7 +99,8 @@ fn type_facts(heap: Global, types: &[TypeEntry]) -> Result<Vec<TypeFacts>, Alloc
     Ok(facts)
 }
 
-// Puts row r below each premise of its rule.
+// Puts row r below each premise of its rule. A match as elsewhere: a rule holds its premises by name, and has no slice of
+// them to lend.
 fn mark(below: &mut [Option<RowId>], r: RowId, rule: Rule)
     requires { all_below (length below.old) (premises rule) ≡ true }
     ensures { below.new ≡ marked below.old (premises rule) (Some r) }

@@ -103,6 +103,8 @@ pub struct Run {
     ghost kept: { ∥ Right machine.types.items machine.rows.items (books_of books) ∥₁ },
 }
 
+// Each call through `&mut self` promises in its clause `derivation` that the machine stays; no field could say what a call
+// leaves.
 impl Run {
     ghost use Rattle.run.specs.Answers.{Fresh, MoveAnswers, OpenAnswers, after_call_in, after_calls_in, move_in, stage_of, sweep_in};
 

@@ -17,7 +17,8 @@ pub fn has(set: u32, w: Wire) -> bool
 }
 
 // Whether all wires are in the set, and no two are equal. A loop, since the set shrinks on the way: try_fold with then
-// says the same in more words.
+// says the same in more words. One function with derivation's releasing would go over bare numbers, which wires and rows
+// are not.
 fn all_in(set: u32, wires: &[Wire]) -> bool
     ensures { result ≡ all_in set (numbers_of wires.now) }
 {

@@ -28,7 +28,8 @@ fn follow(machine: &Machine, place: Place, times: u32) -> Place
     p
 }
 
-// The last place of each wire, where none goes further than so many steps.
+// The last place of each wire, where none goes further than so many steps. A loop: of a chain that is collected, what follow
+// asks of each start stayed open in the proof.
 fn last_places(heap: Global, machine: &Machine, times: u32) -> Result<Vec<Place>, AllocError>
     ensures { IfOk result (λ v. v.items ≡ map (followed machine.now.types.items machine.now.rows.items times) (starts_of machine.now.types.items machine.now.rows.items)) }
 {

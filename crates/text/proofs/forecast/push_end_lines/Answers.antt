@@ -1,9 +1,9 @@
 -- Each turn appends the line of one end.
-use Rattle.std.proofs.Common.{◌≡◌, ℕ, ◌<◌, ◌≤◌, List, ◌++◌, map, get_or, string_bytes, sym, ap, ◌∙◌}
+use Rattle.std.proofs.Common.{◌≡◌, ℕ, ◌<◌, map, get_or, string_bytes, sym, ◌∙◌}
 use mathlib.Core.Path.{subst⁻¹}
-use Rattle.std.proofs.lemmas.List.{take_all, length-map, get_or-map}
+use Rattle.std.proofs.lemmas.List.{length-map, get_or-map}
 use Rattle.theory.specs.Tokens.{no_place, wire_at}
-use Rattle.text.specs.Forecast.{end_line, end_lines}
+use Rattle.text.specs.Forecast.{end_line}
 use Rattle.text.proofs.LineLaws.{numbered-more}
 use Rattle.text.proofs.forecast.push_end_lines.Goals as goal
 
@@ -16,11 +16,3 @@ loop-end-preserved c =
     c.position-wire.ensures ∙ sym (get_or-map (wire_at c.args.places.now) ends end no_place 0 c.loop-end-test.true) in
     rw wire at c.in_ok-write.ensures.bytes
     ∙ numbered-more end_line (string_bytes c.args.text.now) wires end 0 (subst⁻¹ (λ (n : ℕ). end < n) (length-map ends (wire_at c.args.places.now)) c.loop-end-test.true) c.loop-end.invariant
-
-pub returns : goal.returns
-returns c =
-    let ends = c.args.ends.now in
-    let end = c.loop-end.end-counter in
-    c.loop-end.invariant
-    ∙ ap (λ (l : List ℕ). string_bytes c.args.text.now ++ end_lines 0 l)
-    (take_all end (map (wire_at c.args.places.now) ends) (subst⁻¹ (λ (n : ℕ). n ≤ end) (length-map ends (wire_at c.args.places.now)) c.loop-end-test.false))

@@ -25,10 +25,7 @@ loop-x-preserved c =
           record { counted = omega (arith, w.count-is); small = omega (arith, w.count-is) }
     ]
 
-pub returns : goal.returns
-returns c =
+pub returns-clause-counted : goal.returns-clause-counted
+returns-clause-counted c =
     let m = c.args.self.now in
-    record {
-      counted = c.loop-x.invariant.counted ∙ given-all m.types.now m.rows.now c.args.env c.loop-x.x c.requires (omega arith);
-      few = omega (arith, m.few);
-    }
+    c.loop-x.invariant.counted ∙ given-all m.types.now m.rows.now c.args.env c.loop-x.x c.requires (omega arith)
