@@ -168,11 +168,9 @@ impl Machine {
     fn lambda_up(&self, premise: RowId, x: RowId, i: u8) -> Place
         ensures { Some result ≡ within self.now across_own 0 (Lambda premise x) Ty i }
     {
-        let width = self.ty(x).width;
-        if i < width {
-            held(premise, x, i)
-        } else {
-            at(premise, i - width)
+        match i.checked_sub(self.ty(x).width) {
+            Some(rest) => at(premise, rest),
+            None => held(premise, x, i),
         }
     }
 
@@ -195,11 +193,9 @@ impl Machine {
     fn pair_up(&self, left: RowId, right: RowId, i: u8) -> Place
         ensures { Some result ≡ within self.now across_own 0 (Pair left right) Ty i }
     {
-        let width = self.ty(left).width;
-        if i < width {
-            at(left, i)
-        } else {
-            at(right, i - width)
+        match i.checked_sub(self.ty(left).width) {
+            Some(rest) => at(right, rest),
+            None => at(left, i),
         }
     }
 
@@ -272,11 +268,9 @@ impl Machine {
         if s.place.row != function {
             return at(function, i);
         }
-        let width = self.ty(argument).width;
-        if i < width {
-            at(argument, i)
-        } else {
-            at(r, i - width)
+        match i.checked_sub(self.ty(argument).width) {
+            Some(rest) => at(r, rest),
+            None => at(argument, i),
         }
     }
 
@@ -421,10 +415,9 @@ fn gate_across(s: Spot, gate: Gate) -> Place
 {
     let (r, i) = (s.place.row, s.place.atom.0);
     let arity = gate.arity();
-    if i < arity {
-        at(r, arity + i)
-    } else {
-        at(r, i - arity)
+    match i.checked_sub(arity) {
+        Some(rest) => at(r, rest),
+        None => at(r, arity + i),
     }
 }
 

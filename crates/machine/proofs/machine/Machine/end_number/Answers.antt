@@ -33,4 +33,5 @@ returns-in-None c =
     let before = (goal.at.returns-in-None c).After-position in
     let ends = ends_of (vec_items c.args.self.now.types) (vec_items c.args.self.now.rows) in
     let w = wire_at ends c.args.p in
-    end_none w (ltb w (length ends)) (ltb w 256) (sym c.in-None.is ∙ counted before)
+    let none = end_none w (ltb w (length ends)) (ltb w 256) (sym c.in-None.is ∙ counted before) in
+    search rules
