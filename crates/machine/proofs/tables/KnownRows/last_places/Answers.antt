@@ -1,8 +1,8 @@
 -- Each variable of the last row's environment adds its places.
-use Rattle.std.proofs.Common.{◌≡◌, ◌-◌, ◌++◌, not, length, get_or, vec_items, sym, ap, ◌∙◌, ap₂, arith}
-use Rattle.derivation.specs.declared.rows.Part.TheVariants.{Ty, Variable as Var}
-use Rattle.machine.specs.Facts.{is_positive, no_facts, signed, signed_held}
-use Rattle.machine.proofs.PlaceTests.{not_not, reversed-positive}
+use Rattle.std.proofs.Common.{◌-◌, ◌++◌, not, length, get_or, vec_items, sym, ap, ◌∙◌}
+use Rattle.derivation.specs.declared.rows.Part.TheVariants.{Variable as Var}
+use Rattle.machine.specs.Facts.{is_positive, no_facts, signed}
+use Rattle.machine.proofs.PlaceTests.{reversed-positive}
 use Rattle.machine.proofs.StartTables.{held_in, held_out}
 use Rattle.machine.proofs.tables.KnownRows.last_places.Goals as goal
 use Rattle.machine.proofs.tables.KnownRows.last_places.Goals.{then-has+in_ok-push_places, else-has}
@@ -22,13 +22,3 @@ loop-x-preserved c =
           ∙ held_in facts climbs last x ps c.loop-x.invariant (sym w.if-has.true ∙ c.has.ensures)
       | else-has w ↦ ap vec_items w.places-is ∙ held_out facts climbs last x ps c.loop-x.invariant (sym w.if-has.false ∙ c.has.ensures)
     ]
-
-pub returns : goal.returns
-returns c =
-    let facts = c.args.self.now.facts.now in
-    let last = length facts - 1 in
-    let f = get_or facts last no_facts in
-    let all : c.loop-x.x ≡ length facts = omega (arith, c.loop-x.auto.x-end, c.loop-x-test.false) in
-    c.in_ok-push_places-2.ensures
-    ∙ ap₂ (λ ps b. ps ++ signed b f.ty.signs last Ty f.ty.width)
-    (c.loop-x.invariant ∙ ap (signed_held facts (not (is_positive c.args.polarity)) last) all) (sym (not_not (is_positive c.args.polarity)))
