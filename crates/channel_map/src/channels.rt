@@ -73,8 +73,8 @@ impl Channels {
         Some(Wire(w as u8))
     }
 
-    // The channels of a set of wires. A loop of one branch, where a chain would have a closure for the test and one for the
-    // fold.
+    // The channels of a set of wires. A loop of one branch: in a chain the test and the fold would be two closures over pairs
+    // of a number and a channel.
     pub(crate) fn channel_set(&self, wires: u32) -> u32
         ensures { result ≡ channels_of self.now.table wires }
     {
@@ -97,9 +97,9 @@ impl Channels {
             .unwrap_or(32) as u8
     }
 
-    // The channels of a gate's wires, if these are at most three and each below 32; behind them stands wire 0. The
-    // memory is fixed, since apply is handed no allocator. A gate list's seats are these without the table and without a
-    // refusal: shared, both would hand in a closure.
+    // The channels of a gate's wires, if these are at most three and each below 32; behind them stands wire 0. An array: with
+    // an ArrayVec it would be said twice how many there are, for the wires say it. A gate list's seats are these without the
+    // table and without a refusal: shared, both would hand in a closure.
     pub(crate) fn seats(&self, wires: &[Wire]) -> Option<[Wire; 3]>
         ensures { MatchOption result (seatable (numbers_of wires.now) ≡ false) (λ b. (seatable (numbers_of wires.now) ≡ true) × (length b ≡ 3) × (numbers_of (take (length wires.now) b) ≡ map (channel_of self.now.table) (numbers_of wires.now))) }
     {

@@ -76,6 +76,7 @@ impl<T: Target> Target for ChannelMap<T> {
     }
 
     fn apply(&mut self, gate: Gate, wires: &[Wire]) -> Result<(), Refusal> {
+        // A match: which refusal it is depends on the gate, and is asked only where there are no seats.
         match self.channels.seats(wires) {
             Some(seats) => self.beneath.apply(gate, &seats[..wires.len()]),
             None => Err(if T::takes(gate) {

@@ -140,7 +140,8 @@ impl Checked {
         RowId(self.rows.len() as u8)
     }
 
-    // The type of row r, or the qubit where there is no such row, as in the definition: no rule is asked of such a row.
+    // The type of row r, or the qubit where there is no such row. Only rows below are asked for: an Option would have a `?`
+    // that never fires.
     fn type_at(&self, r: RowId) -> TypeId
         ensures { result.0 ≡ type_at self.now.rows.items r.0 }
     {
@@ -148,7 +149,7 @@ impl Checked {
         row.map_or(TypeId(0), |row| row.ty)
     }
 
-    // The environment of row r, or none where there is no such row, as in the definition.
+    // The environment of row r, or none where there is no such row: as for type_at.
     pub(crate) fn env_at(&self, r: RowId) -> u128
         ensures { result ≡ slice_index (environments self.now.rows.items) r.0 }
     {
@@ -262,7 +263,8 @@ impl Checked {
         (0..last).find(|q| !self.taken.has(*q))
     }
 
-    // Whether each row but the last is a premise. A match, since none is the good answer here, which ok_or takes for the bad.
+    // Whether each row but the last is a premise. A match: ok_or takes none for the bad answer, and as map_or, tried, the clause
+    // stayed open in the proof.
     pub(crate) fn all_used(&self) -> Result<(), Refusal>
         ensures { result_err result ≡ unused_fault self.now.rows.items }
     {

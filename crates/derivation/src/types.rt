@@ -30,7 +30,8 @@ pub struct Size {
     pub positive: u8,
 }
 
-// The size of an arrow or a pair, by those of its parts, if it has at most 16 atoms.
+// The size of an arrow or a pair, by those of its parts, if it has at most 16 atoms. It is not the machine's joined, which
+// says what atoms are positive and cannot fail.
 // An arrow reverses the polarity of its left part.
 fn joined(kind: TypeKind, left: Size, right: Size) -> Option<Size>
     requires { (left.positive ≤ left.atoms) × (right.positive ≤ right.atoms) }

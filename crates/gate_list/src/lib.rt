@@ -17,7 +17,8 @@ use basics::refusal::Refusal;
 use target::interface::Target;
 use target::usage::Usage;
 
-// A gate with its wires in the order of its seats; behind them stands wire 0, since the records of a maker have one size.
+// A gate with its wires in the order of its seats; behind them stands wire 0. The gate says how many there are,
+// which a list of wires would say again.
 #[derive(Clone, Copy, PartialEq, Eq)]
 pub struct Applied {
     pub gate: Gate,

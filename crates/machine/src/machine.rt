@@ -43,7 +43,7 @@ struct Spot {
 }
 
 // A derivation that passed all checks, with what moves ask of each row, and the places where tokens start and end.
-// Contracts cite the types and the rows, and a ghost field holds no list: so they stand here beside the facts.
+// Contracts cite the types, and a ghost field holds no list. The rows are read for their rules, and cited.
 #[derive(Drop)]
 pub struct Machine {
     types: Vec<TypeEntry>,
@@ -398,7 +398,7 @@ impl Machine {
         self.starts.get(w.0 as usize).copied()
     }
 
-    // The number of the end at p.
+    // The number of the end at p. A match and no `?`: what none means has its own arm, which the must-fail edit changes.
     pub fn end_number(&self, p: Place) -> Option<EndId>
         ensures { result ≡ end_at (ends_of self.now.types.items self.now.rows.items) p }
     {

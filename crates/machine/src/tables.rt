@@ -33,7 +33,7 @@ impl Polarity {
 }
 
 // The number of atoms of a type, and which of them are positive: bit i of the signs is set if atom i is. A derivation's Size
-// is another thing: it counts the positive atoms, with which a move could not do.
+// is another thing: it counts the positive atoms, which is not enough for a move.
 #[derive(Clone, Copy)]
 pub(crate) struct TypeFacts {
     pub(crate) width: u8,
@@ -65,7 +65,7 @@ pub(crate) struct RowFacts {
     pub(crate) below: Option<RowId>,
 }
 
-// The facts of an arrow or a pair, by those of its parts. An arrow reverses the polarity of its left part.
+// The facts of an arrow or a pair, by those of its parts. It is not derivation's joined, which counts and can fail. An arrow reverses the polarity of its left part.
 fn joined(kind: TypeKind, left: TypeFacts, right: TypeFacts) -> TypeFacts
     requires some { 0 < right.width }
     requires few { left.width + right.width ≤ 16 }
@@ -84,7 +84,7 @@ fn joined(kind: TypeKind, left: TypeFacts, right: TypeFacts) -> TypeFacts
 
 // The facts of a table's types, from entry 0 on.
 // Not one function with derivation's type_sizes, which checks each entry against those before it and can refuse;
-// this reads a checked table. A shared loop would take its step as a closure, and be longer than both.
+// this reads a checked table. A shared loop would take its step as a closure, whose clause both would state.
 fn type_facts(heap: Global, types: &[TypeEntry]) -> Result<Vec<TypeFacts>, AllocError>
     requires { Table types.now }
     ensures { IfOk result (λ v. v.items ≡ map facts_of (trees types.now)) }
@@ -99,8 +99,8 @@ fn type_facts(heap: Global, types: &[TypeEntry]) -> Result<Vec<TypeFacts>, Alloc
     Ok(facts)
 }
 
-// Puts row r below each premise of its rule. A match as elsewhere: a rule holds its premises by name, and has no slice of
-// them to lend.
+// Puts row r below each premise of its rule. A match: a slice of the premises would be made in each arm, as the marks
+// are.
 fn mark(below: &mut [Option<RowId>], r: RowId, rule: Rule)
     requires { all_below (length below.old) (premises rule) ≡ true }
     ensures { below.new ≡ marked below.old (premises rule) (Some r) }
@@ -128,7 +128,7 @@ fn below_rows(rows: &[Row]) -> [Option<RowId>; 128]
     ensures size { length result ≡ 128 }
     ensures under { (q : ℕ) → q < 128 → slice_index_or result q None ≡ row_of (length rows.now) (below_from 0 rows.now q) }
 {
-    // With a Vec of the heap this would answer a Result, and fill the Vec with None first, which is this array.
+    // A Vec would have to be filled with None first, which is this array.
     let mut below = [None; 128];
     for (r, row) in rows.iter().enumerate().rev() {
         mark(&mut below, RowId(r as u8), row.rule);

@@ -11,8 +11,8 @@ use derivation::rows::Place;
 use machine::machine::{Machine, Seat};
 use std::alloc::{AllocError, Global};
 
-// The wires that wait at the seats of a row: all of them as a set, and by seat. No gate has more than three seats,
-// and no move allocates. How many are held is how many ones the set has.
+// The wires that wait at the seats of a row: all of them as a set, and by seat. Seats fill in any order, so the
+// filled ones are no front of a list; how many are held is how many ones the set has.
 #[derive(Clone, Copy)]
 pub(crate) struct Waiting {
     pub(crate) wires: u32,

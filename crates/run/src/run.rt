@@ -35,8 +35,7 @@ fn first_wires(n: u8) -> u32
     if n < 32 { (1u32 << n) - 1 } else { u32::MAX }
 }
 
-// The wires that start given, and those that start at a one row. One pass makes both sets: made one by one they
-// would be this loop with the wanted start as a parameter.
+// The wires that start given, and those that start at a one row. A loop: a fold would carry both sets.
 fn start_sets(starts: &[Start]) -> (u32, u32)
     requires { length starts.now ≤ 32 }
     ensures { result ≡ (mask_l (map is_given starts.now), mask_l (map is_one starts.now)) }
@@ -63,7 +62,8 @@ fn is_walkable<T: Target>(rule: Rule) -> bool
     }
 }
 
-// The lowest row whose gate a kind of target does not take, if there is one.
+// The lowest row whose gate a kind of target does not take. An Option, as the answer of a search: check_fit makes the
+// refusal of what it finds.
 fn gate_not_taken<T: Target>(rows: &[Row]) -> Option<RowId>
     requires { length rows.now ≤ 128 }
     ensures { result ≡ option_map (λ n. record { 0 = n }) (not_taken T.taken 0 rows.now) }

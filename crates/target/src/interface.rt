@@ -49,7 +49,7 @@ pub trait Target {
         ensures obeys { Obeys (begin_fault (view self.old) used given ones) (begun_view begun (view self.old) used given ones) result (view self.new) }
         ensures kept { Kept result self.old self.new };
 
-    // Applies a gate to wires in the order of its seats.
+    // Applies a gate to wires in the order of its seats. Both side by side are the form of the interface.
     fn apply(&mut self, gate: Gate, wires: &[Wire]) -> Result<(), Refusal>
         ensures obeys { Obeys (apply_fault taken (view self.old) gate (numbers_of wires.now)) (applied_view applied (view self.old) gate (numbers_of wires.now)) result (view self.new) }
         ensures kept { Kept result self.old self.new };

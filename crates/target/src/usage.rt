@@ -26,7 +26,7 @@ impl Usage {
     }
 
     // After one gate more, or what is wrong with it: its code, its wires, or the number of gates so far. It is told whether
-    // the code is taken, since a usage is of no kind.
+    // the code is taken: a type parameter for that alone would be written at each call.
     pub fn applied(
         self,
         taken: bool,

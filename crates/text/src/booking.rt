@@ -22,7 +22,7 @@ fn counts_line(heap: Global, wires: u8, gates: u8, moves: u32) -> Result<String,
     format!(in heap; "wires {wires} gates {gates} moves {moves}\n")
 }
 
-// Appends a line for each wire: its number and how it starts.
+// Appends a line for each wire: its number and how it starts. Why it shares no loop with push_end_lines stands there.
 fn push_start_lines(text: &mut String, starts: &[Start]) -> Result<(), AllocError>
     ensures { OnOk result (string_bytes text.new ≡ string_bytes text.old ++ start_lines 0 starts.now) }
 {
@@ -58,6 +58,7 @@ pub(crate) fn held(heap: Global, bytes: &[u8]) -> Result<Result<Holder, Refusal>
 pub fn booking(heap: Global, bytes: &[u8]) -> Result<String, AllocError>
     ensures { IfOk result (λ s. string_bytes s ≡ booking_text bytes.now) }
 {
+    // Why these lines are not shared with forecast stands there.
     match held(heap, bytes)? {
         Ok(holder) => derivation_text(heap, &holder),
         Err(refusal) => refusal_line(heap, refusal),
