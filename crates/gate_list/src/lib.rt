@@ -6,7 +6,7 @@ pub mod laws;
 ghost use Rattle.std.specs.Prelude.{◌≡◌, ◌≤◌, take};
 ghost use Rattle.std.specs.Option.{option_map};
 ghost use Rattle.std.specs.List.{slice_get};
-ghost use Rattle.target.specs.Interface.{all_codes};
+ghost use Rattle.target.specs.Interface.{all_codes, numbers_of};
 ghost use Rattle.target.proofs.CodeLaws.{all_coded};
 ghost use Rattle.gate_list.specs.GateList.{State as ListState, emptied, lengthened, list_view, met_of, recorded, room as room_of, seats_of};
 ghost use Rattle.gate_list.specs.GateListLaws.{swaps};
@@ -14,6 +14,7 @@ ghost use Rattle.gate_list.specs.GateListLaws.{swaps};
 use basics::gate::Gate;
 use basics::numbers::Wire;
 use basics::refusal::Refusal;
+use std::fmt;
 use target::interface::Target;
 use target::usage::Usage;
 
@@ -23,6 +24,30 @@ use target::usage::Usage;
 pub struct Applied {
     pub gate: Gate,
     pub wires: [Wire; 3],
+}
+
+impl Applied {
+    // The wires at the gate's seats.
+    pub fn seats(&self) -> &[Wire]
+        ensures { numbers_of result.now ≡ (met_of self.now).wires }
+    {
+        match self.gate.arity() {
+            1 => &self.wires[..1],
+            2 => &self.wires[..2],
+            _ => &self.wires,
+        }
+    }
+}
+
+// The gate's word and its wires.
+impl fmt::Display for Applied {
+    fn fmt<W: fmt::Write>(&self, f: &mut fmt::Formatter<W>) -> fmt::Result {
+        write!(f, "{}", self.gate)?;
+        for wire in self.seats() {
+            write!(f, " {}", wire.0)?;
+        }
+        Ok(())
+    }
 }
 
 // The records that the maker handed over. The first of them, as many as the usage counts, hold the gates since begin.

@@ -90,15 +90,6 @@ fn show_register(text: &mut String, mut register: Register) -> Result<(), AllocE
     write!(text, " phase {phase}\n")
 }
 
-// The wires at the seats of a record's gate.
-fn seats(record: &Applied) -> &[Wire] {
-    match record.gate.arity() {
-        1 => &record.wires[..1],
-        2 => &record.wires[..2],
-        _ => &record.wires,
-    }
-}
-
 // The gates that a wire met, each with its wires in seat order; none for a wire that met none.
 fn show_wire(
     heap: Global,
@@ -110,24 +101,14 @@ fn show_wire(
     // A list is asked record by record.
     for i in 0..list.count() as usize {
         if let Some(record) = list.record(i) {
-            if seats(&record).contains(&w) {
-                show_record(&mut gates, &record)?;
+            if record.seats().contains(&w) {
+                write!(gates, ", {record}")?;
             }
         }
     }
     if let Some(gates) = gates.as_str().strip_prefix(", ") {
         let w = w.0;
         write!(text, "wire {w}: {gates}\n")?;
-    }
-    Ok(())
-}
-
-fn show_record(text: &mut String, record: &Applied) -> Result<(), AllocError> {
-    let gate = record.gate;
-    write!(text, ", {gate}")?;
-    for seat in seats(record) {
-        let w = seat.0;
-        write!(text, " {w}")?;
     }
     Ok(())
 }
