@@ -1,8 +1,9 @@
 -- Gate lists: the gates that each wire met since begin, in order.
-use Rattle.std.specs.Prelude.{◌≡◌, ℕ, zero, suc, ◌<◌, min, cond, List, [], ◌∷◌, ◌++◌, map, length, take, replicate, filter, slice_index_or}
+use Rattle.std.specs.Prelude.{◌≡◌, ℕ, zero, suc, ◌<◌, min, cond, List, [], ◌∷◌, ◌++◌, codes, decimal, map, length, take, replicate, filter, slice_index_or}
+use Rattle.std.specs.List.{flat_map}
 use Rattle.basics.specs.declared.gate.Gate.{Gate}
 use Rattle.basics.specs.declared.numbers.Wire.{Wire}
-use Rattle.basics.specs.Gates.{arity}
+use Rattle.basics.specs.Gates.{arity, word}
 use Rattle.target.specs.Interface.{View, numbers_of, shares}
 use Rattle.gate_list.specs.declared.Applied.{Applied}
 
@@ -21,6 +22,10 @@ pub record State : Type 0 where
 -- the gate that a record stands for: it has as many wires as the gate has seats
 abbrev pub met_of : Applied → Met
 met_of a = record { gate = a.gate; wires = take (arity a.gate) (numbers_of a.wires) }
+
+-- a gate and its wires as text: its word, and a space before each wire
+abbrev pub met_words : Met → List ℕ
+met_words m = word m.gate ++ flat_map (λ w. codes " " ++ decimal w) m.wires
 
 -- the wires of a record: those of its gate, and then wire 0
 abbrev pub seats_of : List Wire → List Wire

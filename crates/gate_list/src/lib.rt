@@ -3,12 +3,12 @@
 
 pub mod laws;
 
-ghost use Rattle.std.specs.Prelude.{◌≡◌, ◌≤◌, take};
+ghost use Rattle.std.specs.Prelude.{◌≡◌, ◌≤◌, take, Some};
 ghost use Rattle.std.specs.Option.{option_map};
 ghost use Rattle.std.specs.List.{slice_get};
 ghost use Rattle.target.specs.Interface.{all_codes, numbers_of};
 ghost use Rattle.target.proofs.CodeLaws.{all_coded};
-ghost use Rattle.gate_list.specs.GateList.{State as ListState, emptied, lengthened, list_view, met_of, recorded, room as room_of, seats_of};
+ghost use Rattle.gate_list.specs.GateList.{State as ListState, emptied, lengthened, list_view, met_of, met_words, recorded, room as room_of, seats_of};
 ghost use Rattle.gate_list.specs.GateListLaws.{swaps};
 
 use basics::gate::Gate;
@@ -41,12 +41,16 @@ impl Applied {
 
 // The gate's word and its wires.
 impl fmt::Display for Applied {
+    ghost output = { λ a. Some (met_words (met_of a)) };
+
     fn fmt<W: fmt::Write>(&self, f: &mut fmt::Formatter<W>) -> fmt::Result {
-        write!(f, "{}", self.gate)?;
-        for wire in self.seats() {
-            write!(f, " {}", wire.0)?;
+        let gate = self.gate;
+        let [Wire(a), Wire(b), Wire(c)] = self.wires;
+        match gate.arity() {
+            1 => write!(f, "{gate} {a}"),
+            2 => write!(f, "{gate} {a} {b}"),
+            _ => write!(f, "{gate} {a} {b} {c}"),
         }
-        Ok(())
     }
 }
 
