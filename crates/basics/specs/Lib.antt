@@ -1,3 +1,4 @@
 pub mod Gates
 pub mod Refusals
 pub mod Sets
+pub mod Widths

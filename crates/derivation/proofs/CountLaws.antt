@@ -3,7 +3,10 @@ use Rattle.std.proofs.Common.{◌≡◌, ℕ, ◌+◌, ◌-◌, ◌<◌, ◌≤�
 use mathlib.Core.Path.{subst⁻¹}
 use Rattle.std.proofs.lemmas.List.Recursion.{is_sum_by}
 use Rattle.std.proofs.lemmas.List.Sums.{length-filter, sum_by_more}
+use Rattle.basics.specs.declared.gate.Gate.TheVariants.{H, S, T, X, Z, Cx, Cz, Ccx}
 use Rattle.derivation.specs.declared.rows.Row.{Row}
+use Rattle.derivation.specs.declared.rows.Rule.{Rule}
+use Rattle.derivation.specs.declared.rows.Rule.TheVariants.{Variable, Zero, One, Gate, Lambda, PairLambda, Apply, Pair}
 use Rattle.derivation.specs.declared.types.Size.{Size}
 use Rattle.derivation.specs.declared.types.TypeEntry.{TypeEntry}
 use Rattle.derivation.specs.Judgements.{env_at, tree_at}
@@ -21,6 +24,24 @@ kept_more t xs i d h =
     length-filter t (take (i + 1) xs)
     ∙ sum_by_more (λ x. cond (t x) 1 0) xs i d h
     ∙ ap (λ n. n + cond (t (get_or xs i d)) 1 0) (sym (length-filter t (take i xs)))
+
+-- a rule moves at most three tokens together
+pub mates_le : (rule : Rule) → mates rule ≤ 2
+mates_le Variable = omega arith
+mates_le Zero = omega arith
+mates_le One = omega arith
+mates_le (Gate H) = omega arith
+mates_le (Gate S) = omega arith
+mates_le (Gate T) = omega arith
+mates_le (Gate X) = omega arith
+mates_le (Gate Z) = omega arith
+mates_le (Gate Cx) = omega arith
+mates_le (Gate Cz) = omega arith
+mates_le (Gate Ccx) = omega arith
+mates_le (Lambda p x) = omega arith
+mates_le (PairLambda p x y) = omega arith
+mates_le (Apply f a) = omega arith
+mates_le (Pair l r) = omega arith
 
 pub mates-sum : (rows : List Row) → all_mates rows ≡ sum_by (λ row. mates row.rule) rows
 mates-sum = is_sum_by all_mates (λ (row : Row). mates row.rule) refl (λ _ _. refl)

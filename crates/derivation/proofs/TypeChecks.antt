@@ -19,7 +19,7 @@ use Rattle.derivation.proofs.GrowthLaws.{length-grown, grown-push}
 use Rattle.derivation.proofs.WeightLaws.{positives_le}
 
 -- equal by the derived `==` is the same by the definition
-kind-eq : (j k : TypeKind) → sameb the_kinds j k ≡ same_kind j k
+pub kind-eq : (j k : TypeKind) → sameb the_kinds j k ≡ same_kind j k
 kind-eq Arrow Arrow = refl
 kind-eq Arrow Pair = refl
 kind-eq Pair Arrow = refl
@@ -57,10 +57,10 @@ module _ (ds : List TypeEntry) (e : TypeEntry) (k : ℕ) (number : k ≡ suc (le
   pub repeated : listed ds e ≡ true → type_fault ds e ≡ Some (RepeatedType (record { 0 = k }))
   repeated l = rw (← number, lt-leb k e.left.0 left, lt-leb k e.right.0 right, l) refl
 
-  wide : listed ds e ≡ false → 16 < atoms (get_or (trees ds) e.left.0 qubit) + atoms (get_or (trees ds) e.right.0 qubit) → type_fault ds e ≡ Some (TooManyAtoms (record { 0 = k }))
+  pub wide : listed ds e ≡ false → 16 < atoms (get_or (trees ds) e.left.0 qubit) + atoms (get_or (trees ds) e.right.0 qubit) → type_fault ds e ≡ Some (TooManyAtoms (record { 0 = k }))
   wide l w = rw (← number, lt-leb k e.left.0 left, lt-leb k e.right.0 right, l, atoms-node e.kind, lt-ltb 16 _ w) refl
 
-  fine : listed ds e ≡ false → atoms (get_or (trees ds) e.left.0 qubit) + atoms (get_or (trees ds) e.right.0 qubit) ≤ 16 → type_fault ds e ≡ None
+  pub fine : listed ds e ≡ false → atoms (get_or (trees ds) e.left.0 qubit) + atoms (get_or (trees ds) e.right.0 qubit) ≤ 16 → type_fault ds e ≡ None
   fine l w = rw (← number, lt-leb k e.left.0 left, lt-leb k e.right.0 right, l, atoms-node e.kind, le-ltb 16 _ w) refl
 
 -- the two answers of a test

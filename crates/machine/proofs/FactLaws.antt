@@ -101,7 +101,7 @@ set_at xs p q x d h =
     ⊎_elim (λ (e : p ≡ q). rw (eq-eqb p q e, e, get_or-set_same xs q x d h) refl)
     (λ (ne : p ≡ q → ⊥). rw (ne_eqb p q ne, get_or-set_other xs p q x d (λ e. ne (sym e))) refl) (cases_eq p q)
 
-marked-at : {A : Type 0} (xs : List A) (ps : List ℕ) (x d : A) (q : ℕ) → q < length xs → get_or (marked xs ps x) q d ≡ cond (listed q ps) x (get_or xs q d)
+pub marked-at : {A : Type 0} (xs : List A) (ps : List ℕ) (x d : A) (q : ℕ) → q < length xs → get_or (marked xs ps x) q d ≡ cond (listed q ps) x (get_or xs q d)
 marked-at xs [] x d q h = refl
 marked-at xs (p ∷ ps) x d q h =
     marked-at (set xs p x) ps x d q (rw length-set h)
@@ -136,9 +136,13 @@ module _ (rows rest others : List Row) (row : Row) (left : rest ≡ take (length
   pub left_more : (others ≡ take (length others) rows) × (row ≡ get_or rows (length others) no_row)
   left_more = same_from_push _ _ _ _ (sym last ∙ left ∙ ap (λ n. take n rows) left_count ∙ take_more rows (length others) no_row (omega (arith, left_count)))
 
--- the premises of accepted rows are lower, so each is one of 128
-pub rows-lower : (es : List TypeEntry) (rows : List Row) → Accepted es rows → (r : ℕ) → r < length rows → all_below 128 (premises (rule_at rows r)) ≡ true
-rows-lower es rows ok r h = below_to 128 (premises (rule_at rows r)) (λ i l. omega (arith, ok.lower r h i l, ok.few))
+-- the premises of accepted rows are lower
+pub rows-lower : (es : List TypeEntry) (rows : List Row) → Accepted es rows → (r : ℕ) → r < length rows → all_below r (premises (rule_at rows r)) ≡ true
+rows-lower es rows ok r h = below_to r (premises (rule_at rows r)) (ok.lower r h)
+
+-- so each is one of 128
+pub rows-few : (es : List TypeEntry) (rows : List Row) → Accepted es rows → (r : ℕ) → r < length rows → all_below 128 (premises (rule_at rows r)) ≡ true
+rows-few es rows ok r h = below_to 128 (premises (rule_at rows r)) (λ i l. omega (arith, ok.lower r h i l, ok.few))
 
 -- one more number
 pub numbers_more : (k n : ℕ) → numbers k (n + 1) ≡ numbers k n ++ ((k + n) ∷ [])

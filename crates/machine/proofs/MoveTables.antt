@@ -1,11 +1,11 @@
 -- What the code learns of the rows and places of an accepted derivation.
-use Rattle.std.proofs.Common.{◌≡◌, ℕ, ◌<◌, ◌≤◌, Bool, true, false, cond, not, ltb, List, [], ◌∷◌, map, length, get_or, unwrap_or, Some, None, Option, sym, refl, ap, ◌∙◌, ap₂, ⊎_elim, arith}
+use Rattle.std.proofs.Common.{◌≡◌, ℕ, ◌<◌, ◌≤◌, Bool, true, false, cond, not, ltb, List, [], ◌∷◌, map, length, get_or, unwrap_or, Some, None, Option, sym, refl, ap, ◌∙◌, subst, ap₂, ⊎_elim, arith}
 use mathlib.Core.Path.{subst⁻¹}
 use Rattle.std.specs.Option.{option_map}
 use Rattle.std.proofs.lemmas.List.{get_or_past}
 use Rattle.std.proofs.lemmas.Option.{none-some}
 use Rattle.basics.proofs.SetLaws.{has_none}
-use Rattle.std.proofs.lemmas.Bool.{lt-ltb, le-ltb, cases_lt}
+use Rattle.std.proofs.lemmas.Bool.{and_parts, ltb-true, lt-ltb, le-ltb, cases_lt}
 use Rattle.derivation.specs.declared.types.TypeEntry.{TypeEntry}
 use Rattle.derivation.specs.declared.rows.Row.{Row}
 use Rattle.basics.specs.declared.numbers.RowId.{RowId}
@@ -34,7 +34,7 @@ use Rattle.machine.proofs.SignLaws.{signs-has}
 use Rattle.machine.proofs.StartTables.{length-row-facts, row_fact-at}
 
 -- a row that there is not
-rule_past : (rows : List Row) (r : ℕ) → length rows ≤ r → Variable ≡ rule_at rows r
+pub rule_past : (rows : List Row) (r : ℕ) → length rows ≤ r → Variable ≡ rule_at rows r
 rule_past rows r h = ap (λ (row : Row). row.rule) (sym (get_or_past rows r no_row h))
 
 tree_past : (es : List TypeEntry) (rows : List Row) (r : ℕ) → length rows ≤ r → tree_at es rows r ≡ qubit
@@ -115,6 +115,24 @@ module _ (es : List TypeEntry) (rows : List Row) (p : Place) where
       part_small : (part : Part) → part_width es rows p.row.0 part ≤ 16
       part_small Ty = width_small es rows ok p.row.0
       part_small (Var x) = cond_le (has (env_at rows p.row.0) x.0) (width es rows x.0) (width_small es rows ok x.0)
+
+cond_pos : (b : Bool) (i n : ℕ) → i < cond b n 0 → i < n
+cond_pos true i n h = h
+cond_pos false i n h = absurd (omega arith)
+
+-- a place's row is there, and its atom is one of its part's type
+module _ (es : List TypeEntry) (rows : List Row) (p : Place) (is : is_place es rows p ≡ true) where
+  pub place-row : p.row.0 < length rows
+  place-row = ltb-true p.row.0 (length rows) (and_parts _ _ is).0
+
+  pub place_atom : p.atom.0 < part_width es rows p.row.0 p.part
+  place_atom = ltb-true p.atom.0 _ (and_parts (ltb p.row.0 (length rows)) _ is).1
+
+  pub atom_in_type : p.part ≡ Ty → p.atom.0 < width es rows p.row.0
+  atom_in_type e = subst (λ (part : Part). p.atom.0 < part_width es rows p.row.0 part) e place_atom
+
+  pub atom_in_variable : (x : RowId) → p.part ≡ Var x → p.atom.0 < width es rows x.0
+  atom_in_variable x e = cond_pos (has (env_at rows p.row.0) x.0) _ _ (subst (λ (part : Part). p.atom.0 < part_width es rows p.row.0 part) e place_atom)
 
 -- a token's next place, by the polarity of its own
 module _ (es : List TypeEntry) (rows : List Row) (p q : Place) (same : q ≡ p) (there : true ≡ is_place es rows p) where

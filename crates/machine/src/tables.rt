@@ -48,7 +48,7 @@ impl TypeFacts {
     pub(crate) fn polarity(self, i: u8) -> Option<Polarity>
         ensures { result ≡ atom_polarity self i }
     {
-        let positive = u128::from(self.signs).has(i);
+        let positive = u32::from(self.signs).has(i);
         (i < self.width).then_some(if positive {
             Polarity::Positive
         } else {

@@ -1,6 +1,7 @@
 -- What the facts that a run keeps say of the move of a wire whose token is at a seat.
-use Rattle.std.proofs.Common.{◌≡◌, ℕ, suc, ◌^◌, ◌<◌, true, false, List, map, length, get_or, take, Some, subst}
+use Rattle.std.proofs.Common.{◌≡◌, ℕ, suc, ◌^◌, ◌<◌, ◌≤◌, true, false, ltb, List, map, length, get_or, take, Some, None, sym, ap, ◌∙◌, subst}
 use lib.Count.{ones}
+use Rattle.std.proofs.lemmas.Bool.{cond-true, lt-ltb}
 use Rattle.basics.specs.declared.gate.Gate.{Gate as GateName}
 use Rattle.derivation.specs.declared.types.TypeEntry.{TypeEntry}
 use Rattle.derivation.specs.declared.rows.Rule.TheVariants.{Gate}
@@ -10,11 +11,13 @@ use Rattle.derivation.specs.Accepted.{Accepted}
 use Rattle.derivation.specs.Judgements.{rule_at}
 use Rattle.derivation.specs.Rows.{all_below}
 use Rattle.machine.specs.declared.machine.Seat.{Seat}
-use Rattle.machine.specs.Calls.{gate_at, seat_at}
+use Rattle.machine.specs.Calls.{gate_at, gate_in, seat_at}
 use Rattle.theory.specs.Tokens.{advanced, is_seat, movable, no_place, seats, together, wire_at}
+use Rattle.theory.proofs.Basics.{none_some}
 use Rattle.theory.proofs.Ways.{seat_facts}
 use Rattle.target.specs.Interface.{numbers_of}
 use Rattle.run.specs.Books.{Kept, Right, Underway, nobody, passed}
+use Rattle.run.proofs.Arriving.{seats-few}
 use Rattle.run.proofs.MoveFacts.{full-below, full-can, full-counted, full-kept, full-led, full-under, full-wires, seat-row, waits}
 use Rattle.run.proofs.SeatParts.{gate-of, seat_here, seat_is}
 
@@ -36,6 +39,8 @@ module _ (es : List TypeEntry) (rows : List Row) (b : Kept) (n w : ℕ) where
 
   pub record AtSeat (s : Seat) : Type 0 where
     pub row_in : s.row.0 < length rows
+    pub arity_few : s.arity ≤ 3
+    pub gated : gate_at rows s.row.0 ≡ None → ⊥
     pub ruled : (g : GateName) → gate_at rows s.row.0 ≡ Some g → rule_at rows place.row.0 ≡ Gate g
     pub short : (Full s → ⊥) → movable es rows b.tokens place ≡ false
     pub can : Full s → movable es rows b.tokens place ≡ true
@@ -55,6 +60,8 @@ module _ (es : List TypeEntry) (rows : List Row) (b : Kept) (n w : ℕ) where
         let rule = λ (g : GateName). gate-of rows place.row.0 g low in
         record {
           row_in = low;
+          arity_few = seats-few (rule_at rows place.row.0);
+          gated = λ none. none_some (sym none ∙ cond-true (ltb place.row.0 (length rows)) _ _ (lt-ltb _ _ low) ∙ ap gate_in gate);
           ruled = rule;
           short = waits es rows a b n so right w l seat;
           can = full-can es rows a b n so right w l seat;

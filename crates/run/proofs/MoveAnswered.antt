@@ -37,7 +37,7 @@ failed_so false x e = (refl, cc)
 
 module _ (tokens : List Place) (w : ℕ) where
   -- a place that is told is that of a wire's token
-  told_place : (p : Place) → Ok p ≡ place_of tokens w → (w < length tokens) × (p ≡ get_or tokens w no_place)
+  pub told_place : (p : Place) → Ok p ≡ place_of tokens w → (w < length tokens) × (p ≡ get_or tokens w no_place)
   told_place p e = let (below, is) = passed_so (ltb w (length tokens)) _ e in (ltb-true w (length tokens) below, is)
 
   -- otherwise there is no such wire
@@ -54,11 +54,11 @@ module _ (es : List TypeEntry) (rows : List Row) (a : Accepted es rows) (tokens 
   stands = ∥∥₁_elim under (Bool-set _ _) (λ (fired, run). run_stand es rows a run w l)
 
   -- the token of a wire is at a place, so it is asked whether that is an end
-  at_end : (t : Bool) → t ≡ (is_place es rows p && is_end es rows p) → is_end es rows (get_or tokens w no_place) ≡ t
+  pub at_end : (t : Bool) → t ≡ (is_place es rows p && is_end es rows p) → is_end es rows (get_or tokens w no_place) ≡ t
   at_end t e = sym (e ∙ ap (λ (q : Place). is_place es rows q && is_end es rows q) is ∙ ap (λ (x : Bool). x && is_end es rows (get_or tokens w no_place)) stands)
 
   -- and whether it is a seat
-  no_seat : None ≡ seat_at es rows p → is_seat es rows (get_or tokens w no_place) ≡ false
+  pub no_seat : None ≡ seat_at es rows p → is_seat es rows (get_or tokens w no_place) ≡ false
   no_seat e = ⊎_elim
       (λ t. absurd (none_some (e ∙ ap (seat_at es rows) is ∙ cond-true (is_place es rows (get_or tokens w no_place) && is_seat es rows (get_or tokens w no_place)) _ _ (and_from _ _ stands t))))
       (λ f. f) (cases_Bool (is_seat es rows (get_or tokens w no_place)))

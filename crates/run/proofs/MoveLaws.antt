@@ -168,6 +168,9 @@ module _ (es : List TypeEntry) (rows : List Row) (a : Accepted es rows) where
           can_movable es rows b.tokens w place l (get_or_default b.tokens w (nowhere rows) no_place l)
           (seat_no_end es rows a place seat, λ s. full-held-all full)
 
+      pub full-stands : ones (get_or b.waiting row nobody).wires ≡ seats (rule_at rows row) → all_stand b.tokens (together es rows place) ≡ true
+      full-stands full = (and_parts (not (is_end es rows place)) _ (full-moves full)).1
+
       -- otherwise they wait
       pub not_full : (ones (get_or b.waiting row nobody).wires ≡ seats (rule_at rows row) → ⊥) → move es rows b.tokens w ≡ None
       unfolding move

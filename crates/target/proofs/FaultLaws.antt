@@ -1,9 +1,9 @@
 -- What is known of a gate that counts.
-use Rattle.std.proofs.Common.{◌≡◌, ℕ, ◌+◌, ◌<◌, Bool, true, false, cond, not, eqb, leb, List, length, Ok, Err, Result, Option, Some, None, refl, sym, ◌∙◌}
+use Rattle.std.proofs.Common.{◌≡◌, ℕ, ◌+◌, ◌^◌, ◌<◌, Bool, true, false, cond, not, eqb, leb, List, length, Ok, Err, Result, Option, Some, None, refl, sym, ◌∙◌}
 use Rattle.std.proofs.lemmas.List.{length-map}
 use Rattle.std.proofs.lemmas.Bool.{leb-false, lt-leb, and_parts, eqb-true, not-false}
 use Rattle.basics.specs.Gates.{arity}
-use Rattle.derivation.specs.Rows.{all_in}
+use Rattle.derivation.specs.Rows.{all_in, all_below}
 use Rattle.basics.specs.declared.gate.Gate.{Gate}
 use Rattle.basics.specs.declared.numbers.Wire.{Wire}
 use Rattle.basics.specs.declared.refusal.Refusal.{Refusal}
@@ -11,6 +11,7 @@ use Rattle.basics.specs.declared.refusal.Refusal.TheVariants.{AtCapacity, NotTak
 use Rattle.target.specs.declared.usage.Usage.{Usage}
 use Rattle.target.specs.Interface.{numbers_of, seated, sets_fit}
 use Rattle.target.specs.Usage.{usage_applied, usage_begun}
+use Rattle.target.proofs.MaskLaws.{all_below_lem, has_below}
 
 -- a test that stands before an answer has not refused it
 not_refused : {A : Type 0} (b : Bool) (e : Refusal) (r : Result A Refusal) (x : A) → Ok x ≡ cond b (Err e) r → (b ≡ false) × (Ok x ≡ r)
@@ -54,6 +55,10 @@ begun_from false used after p = absurd cc
 
 pub begun_clear : (width used given ones : ℕ) (after : Usage) → Ok after ≡ usage_begun width used given ones → (sets_fit width used given ones ≡ true) × (after ≡ record { used = used; count = 0 })
 begun_clear width used given ones after p = begun_from (sets_fit width used given ones) used after p
+
+-- its wires are in use, so they are below k where k bits tell the wires in use
+pub clear_below : (k : ℕ) {taken : Bool} {capacity : ℕ} {u after : Usage} {g : Gate} {ws : List ℕ} → u.used < 2 ^ k → Clear taken capacity u after g ws → all_below k ws ≡ true
+clear_below k {u = u} {g = g} {ws = ws} fits ok = all_below_lem k u.used ws (λ z. has_below k u.used z fits) (and_parts (eqb (length ws) (arity g)) (all_in u.used ws) ok.seats).1
 
 -- its wires are as many as the gate has seats
 pub clear-count : {taken : Bool} {capacity : ℕ} {u after : Usage} {g : Gate} (ws : List Wire) → Clear taken capacity u after g (numbers_of ws) → length ws ≡ arity g

@@ -30,7 +30,7 @@ pub trait Target {
     fn takes(gate: Gate) -> bool
         ensures { result ≡ taken gate }
     {
-        u128::from(Self::CODES).has(gate.code())
+        u32::from(Self::CODES).has(gate.code())
     }
 
     // How many wires the target has room for.

@@ -11,12 +11,12 @@ use Rattle.derivation.specs.Places.{numbers}
 use Rattle.derivation.proofs.RowChecks.{length-environments}
 use Rattle.machine.specs.declared.tables.RowFacts.{RowFacts}
 use Rattle.machine.specs.Facts.{facts_at}
-use Rattle.machine.proofs.FactLaws.{length-facts, rows-lower, map-numbers, row_fact, row_turn, length-joined_rows}
+use Rattle.machine.proofs.FactLaws.{length-facts, rows-few, map-numbers, row_fact, row_turn, length-joined_rows}
 use Rattle.machine.proofs.tables.row_facts.Goals as goal
 use Rattle.machine.proofs.tables.row_facts.Goals.{After-into_iter-row-iterator}
 
 pub below_rows-below-requires-clause-lower : goal.below_rows-below-requires-clause-lower
-below_rows-below-requires-clause-lower c = rows-lower c.args.types.now c.args.rows.now c.requires.accepted
+below_rows-below-requires-clause-lower c = rows-few c.args.types.now c.args.rows.now c.requires.accepted
 
 -- as many environments as rows, and as many rows below as rows or more
 as_many : (c : After-into_iter-row-iterator) → length c.args.envs.now ≡ length c.args.rows.now
