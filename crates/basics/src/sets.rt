@@ -83,7 +83,7 @@ impl Mask for u32 {
         (wide % (1 << 32)) as u32
     }
 
-    // These four are the trait's in 32 bits: every gate and every move asks them, and in 128 bits they take twice as long.
+    // These four are the trait's in 32 bits: every gate and every move asks them, and in 128 bits they take longer.
     fn has(self, x: u8) -> bool {
         x < 32 && (self >> x) & 1 == 1
     }
